@@ -1,0 +1,29 @@
+-- The forms of a result. "A result has a number, the operand (1, 2, else 0), an offset, a count of pieces and bytes written. Parts that do not
+-- apply are 0."
+--   said n             == the number n alone
+--   fault n o at       == the refusal n of operand o, at the offset of the record at fault
+--   counted n k        == the number n with a count of k
+--   showing k b        == no, with a count of k and a header of b bytes written
+--   wrote b            == written: b bytes
+--   placed at          == yes, with the offset of a record that is at no fault
+-- Assumes nothing: these are definitions.
+use Prim.Native.Nat.{ℕ}
+use Rattle.answer.specs.declared.Answer.{Answer}
+
+abbrev pub said : ℕ → Answer
+said n = record { number = n; operand = 0; offset = 0; count = 0; written = 0 }
+
+abbrev pub fault : ℕ → ℕ → ℕ → Answer
+fault n o at = record { number = n; operand = o; offset = at; count = 0; written = 0 }
+
+abbrev pub counted : ℕ → ℕ → Answer
+counted n k = record { number = n; operand = 0; offset = 0; count = k; written = 0 }
+
+abbrev pub showing : ℕ → ℕ → Answer
+showing k b = record { number = 2; operand = 0; offset = 0; count = k; written = b }
+
+abbrev pub wrote : ℕ → Answer
+wrote b = record { number = 0; operand = 0; offset = 0; count = 0; written = b }
+
+abbrev pub placed : ℕ → Answer
+placed at = record { number = 1; operand = 0; offset = at; count = 0; written = 0 }

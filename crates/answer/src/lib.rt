@@ -1,0 +1,93 @@
+// The result of every call, by value, with document 01's five parts. It is made only by the functions below, which have the same names in
+// specs/, so that a part can be added here and nowhere else.
+ghost use mathlib.Core.Path.{_≡_};
+ghost use Rattle.answer.specs.Answer.{said, fault, counted, showing, wrote, placed};
+
+#[repr(C)]
+pub struct Answer {
+    pub number: u8,
+    pub operand: u8,
+    pub offset: usize,
+    pub count: u32,
+    pub written: usize,
+}
+
+impl Answer {
+    // A number alone: yes, no, or a refusal that is at no record.
+    pub fn said(number: u8) -> Answer
+        ensures { λ r. ⌜ r ≡ said number ⌝ }
+    {
+        Answer {
+            number,
+            operand: 0,
+            offset: 0,
+            count: 0,
+            written: 0,
+        }
+    }
+
+    // A refusal of an operand, at the offset of the record at fault.
+    pub fn fault(number: u8, operand: u8, offset: usize) -> Answer
+        ensures { λ r. ⌜ r ≡ fault number operand offset ⌝ }
+    {
+        Answer {
+            number,
+            operand,
+            offset,
+            count: 0,
+            written: 0,
+        }
+    }
+
+    // An answer of a walk that shows no header, or the ceiling, with its count.
+    pub fn counted(number: u8, count: u32) -> Answer
+        ensures { λ r. ⌜ r ≡ counted number count ⌝ }
+    {
+        Answer {
+            number,
+            operand: 0,
+            offset: 0,
+            count,
+            written: 0,
+        }
+    }
+
+    // A walk's no, with its count and the bytes of the header that it shows.
+    pub fn showing(count: u32, written: usize) -> Answer
+        ensures { λ r. ⌜ r ≡ showing count written ⌝ }
+    {
+        Answer {
+            number: 2,
+            operand: 0,
+            offset: 0,
+            count,
+            written,
+        }
+    }
+
+    // Written, and how many bytes.
+    pub fn wrote(written: usize) -> Answer
+        ensures { λ r. ⌜ r ≡ wrote written ⌝ }
+    {
+        Answer {
+            number: 0,
+            operand: 0,
+            offset: 0,
+            count: 0,
+            written,
+        }
+    }
+
+    // A difference that reading on gives, with its record's offset.
+    pub fn placed(offset: usize) -> Answer
+        ensures { λ r. ⌜ r ≡ placed offset ⌝ }
+    {
+        Answer {
+            number: 1,
+            operand: 0,
+            offset,
+            count: 0,
+            written: 0,
+        }
+    }
+}

@@ -1,0 +1,3 @@
+-- The laws of the format.
+pub mod Reached
+pub mod Figures

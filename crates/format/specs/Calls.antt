@@ -1,0 +1,250 @@
+-- One definition for each public call: everything that it gives back, of the bytes and numbers lent. `room` is the length of the buffer lent for
+-- writing. "Order: direct W; operand 1; operand 2; 20; header, field (21 before 11) or index; then 18 if any difference of the tidied result has too
+-- many cuts, 19, 22."
+--   cube-meet, cube-in                  == two cubes: the cube of their common headers; whether the first lies in the second
+--   wider                               == the wider of two cubes, and the number of the separate question
+--   diff-member, region-member          == whether a header is in
+--   diff-intersect, region-intersect    == the headers that are in both
+--   diff-less, region-less              == the headers that are in the first and not in the difference
+--   diff-empty, region-empty            == whether no header is in, or a header that is
+--   diff-in                             == whether every header of the first is in the second, or one that is not
+--   ceiling-of                          == the ceiling of a difference
+--   region-tidy                         == the region tidied
+--   prefix                              == the cube of a prefix constraint
+--   equal-fields                        == the difference of equality of fields
+--   view                                == a cube by difference and index, as a stretch of the file, and the number of the separate question
+--   read-on                             == one step of reading on, and the next place
+--   question                            == what the question program tells of its input
+-- Assumes nothing: these are definitions.
+use Prim.Native.Nat.{ℕ, _+_, _*_}
+use mathlib.Core.List.{List}
+use mathlib.Core.Bool.{false, not, cond, _||_}
+use lib.Dec.{eqb}
+use lib.ListN.{length, getD}
+use Rattle.model.specs.Cube.{meet, shares, within}
+use Rattle.model.specs.Difference.{inDifference, inRegion}
+use Rattle.model.specs.Tidy.{tidyRegion}
+use Rattle.model.specs.Algebra.{intersection, intersections, subtraction, subtractions}
+use Rattle.model.specs.Fields.{prefixCube, equalFields}
+use Rattle.model.specs.Walk.{walk, walkRegion, walkInclusion}
+use Rattle.model.specs.Ceiling.{ceiling, capped}
+use Rattle.answer.specs.declared.Answer.{Answer}
+use Rattle.answer.specs.Answer.{said, fault, counted, placed}
+use Rattle.format.specs.Rows.{last, row, below, is, isnt, so, outcome}
+use Rattle.format.specs.Limits.{widest, mostCuts, mostInput}
+use Rattle.format.specs.Bytes.{cubeLen, bits, readHeader, readCube, writeCube, lentFault}
+use Rattle.format.specs.Records.{countAt, nextAt, widthOf, widthFault, differenceAt, differenceFault, differenceBytes}
+use Rattle.format.specs.Files.{readFile, faultNumber, faultOffset, offsets, regionIn}
+use Rattle.format.specs.Told.{Told, silent, wide, lentCube, lentRecord, lentFile, lentBits, lentHeader, yesOr, writing, writingRegion, walking}
+
+-- cubes
+
+-- "Two lent cubes that share a header meet in the cube written; if they share none the answer is 2 and nothing is written."
+unfoldable pub cube-meet : ℕ → List ℕ → List ℕ → ℕ → Told
+cube-meet w a b room =
+    outcome
+    (wide w
+    (lentCube w a 1
+    (lentCube w b 2
+    (row (so (not (shares (readCube w a) (readCube w b)))) (silent (said 2))
+    (writing (writeCube (meet (readCube w a) (readCube w b))) room)))))
+
+-- "Cube inclusion, first in second, is 1 or 2 and writes nothing."
+unfoldable pub cube-in : ℕ → List ℕ → List ℕ → Told
+cube-in w a b =
+    outcome
+    (wide w
+    (lentCube w a 1
+    (lentCube w b 2
+    (yesOr (within (readCube w a) (readCube w b))))))
+
+pub data Which : Type 0 where
+  first second neither : Which
+
+-- "the first if it holds the second, else the second if it holds the first", "A refusal or no such cube gives a stretch of length 0."
+unfoldable pub wider : ℕ → List ℕ → List ℕ → Which
+wider w a b =
+    outcome
+    (row (is w 0) neither
+    (row (below widest w) neither
+    (row (isnt (lentFault w a) 0) neither
+    (row (isnt (lentFault w b) 0) neither
+    (row (so (within (readCube w b) (readCube w a))) first
+    (row (so (within (readCube w a) (readCube w b))) second
+    (last neither)))))))
+
+-- "for the wider cube 1, 2 or the cubes' refusal"
+unfoldable pub wider-number : ℕ → List ℕ → List ℕ → Told
+wider-number w a b =
+    outcome
+    (wide w
+    (lentCube w a 1
+    (lentCube w b 2
+    (yesOr (within (readCube w b) (readCube w a) || within (readCube w a) (readCube w b))))))
+
+-- membership
+
+unfoldable pub diff-member : ℕ → List ℕ → List ℕ → Told
+diff-member w s h =
+    outcome
+    (wide w
+    (lentRecord w s 1
+    (lentHeader w h
+    (yesOr (inDifference (differenceAt w s 0) (readHeader w h))))))
+
+unfoldable pub region-member : List ℕ → List ℕ → Told
+region-member s h =
+    outcome
+    (lentFile s 1
+    (lentHeader (widthOf s) h
+    (yesOr (inRegion (regionIn s) (readHeader (widthOf s) h)))))
+
+-- what writes region files. "Results are tidied and written as region files"
+
+unfoldable pub region-tidy : List ℕ → ℕ → Told
+region-tidy s room =
+    outcome
+    (lentFile s 1
+    (writingRegion (widthOf s) (tidyRegion (regionIn s)) room))
+
+unfoldable pub diff-intersect : ℕ → List ℕ → List ℕ → ℕ → Told
+diff-intersect w s t room =
+    outcome
+    (wide w
+    (lentRecord w s 1
+    (lentRecord w t 2
+    (writingRegion w (tidyRegion (intersection (differenceAt w s 0) (differenceAt w t 0))) room))))
+
+-- "20: two region files have different W"
+unfoldable pub region-intersect : List ℕ → List ℕ → ℕ → Told
+region-intersect s t room =
+    outcome
+    (lentFile s 1
+    (lentFile t 2
+    (row (isnt (widthOf s) (widthOf t)) (silent (said 20))
+    (writingRegion (widthOf s) (tidyRegion (intersections (regionIn s) (regionIn t))) room))))
+
+unfoldable pub diff-less : ℕ → List ℕ → List ℕ → ℕ → Told
+diff-less w s t room =
+    outcome
+    (wide w
+    (lentRecord w s 1
+    (lentRecord w t 2
+    (writingRegion w (tidyRegion (subtraction (differenceAt w s 0) (differenceAt w t 0))) room))))
+
+-- "Beside a region file all is of that file's W"
+unfoldable pub region-less : List ℕ → List ℕ → ℕ → Told
+region-less s t room =
+    outcome
+    (lentFile s 1
+    (lentRecord (widthOf s) t 2
+    (writingRegion (widthOf s) (tidyRegion (subtractions (regionIn s) (differenceAt (widthOf s) t 0))) room)))
+
+-- the walk
+
+unfoldable pub diff-empty : ℕ → List ℕ → ℕ → ℕ → Told
+diff-empty w s n room =
+    outcome
+    (wide w
+    (lentRecord w s 1
+    (walking w n room (walk (differenceAt w s 0)))))
+
+unfoldable pub region-empty : List ℕ → ℕ → ℕ → Told
+region-empty s n room =
+    outcome
+    (lentFile s 1
+    (walking (widthOf s) n room (walkRegion (regionIn s))))
+
+unfoldable pub diff-in : ℕ → List ℕ → List ℕ → ℕ → ℕ → Told
+diff-in w s t n room =
+    outcome
+    (wide w
+    (lentRecord w s 1
+    (lentRecord w t 2
+    (walking w n room (walkInclusion (differenceAt w s 0) (differenceAt w t 0))))))
+
+-- "0: written, or the ceiling, which is then the count"
+unfoldable pub ceiling-of : ℕ → List ℕ → Told
+ceiling-of w s =
+    outcome
+    (wide w
+    (lentRecord w s 1
+    (last (silent (counted 0 (capped (ceiling (differenceAt w s 0))))))))
+
+-- fields
+
+-- "A field starts at s and has n positions, n at least 1, s + n at most W. The prefix length m is 1 to n; else 21. The value has ceil(n/8) bytes from
+-- the left; bits after m are zero, else 11."
+unfoldable pub prefix : ℕ → ℕ → ℕ → ℕ → List ℕ → ℕ → Told
+prefix w s n m value room =
+    outcome
+    (wide w
+    (row (is n 0) (silent (said 21))
+    (row (below w (s + n)) (silent (said 21))
+    (row (is m 0) (silent (said 21))
+    (row (below n m) (silent (said 21))
+    (lentBits n m value
+    (writing (writeCube (prefixCube w s m (bits value))) room)))))))
+
+-- "Two starts and one n, bounded as above." .. "Different starts and n above 32 give 18." .. "One kind 2 record is written."
+unfoldable pub equal-fields : ℕ → ℕ → ℕ → ℕ → ℕ → Told
+equal-fields w p q n room =
+    outcome
+    (wide w
+    (row (is n 0) (silent (said 21))
+    (row (below w (p + n)) (silent (said 21))
+    (row (below w (q + n)) (silent (said 21))
+    (row (below mostCuts (length (equalFields w p q n .cuts))) (silent (said 18))
+    (writing (differenceBytes w (equalFields w p q n)) room))))))
+
+-- views
+
+pub record Viewed : Type 0 where
+  pub answer : Answer
+  pub start : ℕ
+  pub size : ℕ
+
+abbrev pub unseen : Answer → Viewed
+unseen a = record { answer = a; start = 0; size = 0 }
+
+-- "A cube by difference and index (0 is the base) is handed back as that stretch of the caller's file.", "for an index 1, 23 or the file's refusal"
+unfoldable pub view : List ℕ → ℕ → ℕ → Viewed
+view s d i =
+    let at = getD (offsets (readFile s)) d 0 in
+    outcome
+    (row (isnt (faultNumber (readFile s)) 0) (unseen (fault (faultNumber (readFile s)) 1 (faultOffset (readFile s))))
+    (row (below (length (offsets (readFile s))) (d + 1)) (unseen (said 23))
+    (row (below (countAt s at) i) (unseen (said 23))
+    (last (record { answer = said 1; start = at + 5 + i * cubeLen (widthOf s); size = cubeLen (widthOf s) })))))
+
+-- reading on
+
+pub record Step : Type 0 where
+  pub answer : Answer
+  pub place : ℕ
+
+abbrev pub stay : Answer → ℕ → Step
+stay a place = record { answer = a; place = place }
+
+-- "It starts at place 0: kind 1, then the first difference. Any other place is read as a kind 2 record's start"
+abbrev pub startOf : ℕ → ℕ
+startOf place = cond (eqb place 0) 6 place
+
+-- "gives one difference after another: 1 with the record's offset, 2 with offset 0 after the last. A refused record gives its number and offset, and the
+-- place stays, as it does after 2." .. "W is kind 1's, read first in each step and refused at 0. Records are not counted, so 19 is not given."
+unfoldable pub read-on : List ℕ → ℕ → Step
+read-on s place =
+    let at = startOf place in
+    let f = differenceFault false (widthOf s) 0 s at in
+    outcome
+    (row (isnt (widthFault s) 0) (stay (fault (widthFault s) 1 0) place)
+    (row (is at (length s)) (stay (said 2) place)
+    (row (isnt f 0) (stay (fault f 1 at) place)
+    (last (record { answer = placed at; place = nextAt s at })))))
+
+-- the question program lends room for the widest header
+unfoldable pub question : List ℕ → Told
+question s =
+    outcome
+    (row (below mostInput (length s)) (silent (said 25))
+    (last (region-empty s 1000000 40)))

@@ -1,0 +1,7 @@
+pub mod Rows
+pub mod Limits
+pub mod Bytes
+pub mod Records
+pub mod Files
+pub mod Told
+pub mod Calls

@@ -1,0 +1,52 @@
+-- A table of tests in their order, as data: the first row whose test holds gives the outcome, else the last line does.
+--   Test            == one number below another (below m n), equal to it (is m n), another (isnt m n), or a truth (so b)
+--   passes t        == the test holds
+--   Rows A          == a table whose outcomes are of the type A
+--   outcome k       == what the table k gives
+--   Holds, Fails    == a test, and its contrary, as facts
+--   Each P k        == P holds of each row's outcome where the tests above it fail and its own holds
+--   Gives k r       == the number r is what the table k gives, as facts that arithmetic reads
+-- Assumes nothing: these are definitions.
+use Prim.Native.Nat.{ℕ, _≤_, _<_}
+use mathlib.Core.Path.{_≡_}
+use mathlib.Core.Bool.{Bool, true, false, cond, not}
+use lib.Dec.{ltb, eqb}
+
+pub data Test : Type 0 where
+  below : ℕ → ℕ → Test
+  is : ℕ → ℕ → Test
+  isnt : ℕ → ℕ → Test
+  so : Bool → Test
+
+unfoldable pub passes : Test → Bool
+passes (below m n) = ltb m n
+passes (is m n) = eqb m n
+passes (isnt m n) = not (eqb m n)
+passes (so b) = b
+
+pub data Rows (A : Type 0) : Type 0 where
+  last : A → Rows A
+  row : Test → A → Rows A → Rows A
+
+unfoldable pub outcome : {A : Type 0} → Rows A → A
+outcome (last a) = a
+outcome (row t a k) = cond (passes t) a (outcome k)
+
+abbrev pub Holds : Test → Type 0
+Holds (below m n) = m < n
+Holds (is m n) = m ≡ n
+Holds (isnt m n) = m ≡ n → ⊥
+Holds (so b) = b ≡ true
+
+abbrev pub Fails : Test → Type 0
+Fails (below m n) = n ≤ m
+Fails (is m n) = m ≡ n → ⊥
+Fails (isnt m n) = m ≡ n
+Fails (so b) = b ≡ false
+
+abbrev pub Each : {A : Type 0} → (A → Type 0) → Rows A → Type 0
+Each P (last a) = P a
+Each P (row t a k) = (Holds t → P a) × (Fails t → Each P k)
+
+abbrev pub Gives : Rows ℕ → ℕ → Type 0
+Gives k r = Each (_≡_ r) k

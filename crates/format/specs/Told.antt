@@ -1,0 +1,107 @@
+-- What a call tells: its result, and the bytes that it writes at the front of the buffer lent to it.
+--   Told            == the result and the bytes written, none where nothing is written
+--   over old new    == a buffer that held old, with new written over its front
+--   silent a        == the result a, and nothing is written
+--   wide w k        == the table k, after the tests of a width given directly
+--   lentCube, lentRecord, lentFile == the table k, after the tests of an operand
+--   lentHeader w h k == the table k, after the tests of a header of w positions
+--   writing bs room == the bytes bs are to be written into a buffer of that room
+--   writingRegion w r room == the tidied region r is to be written
+--   walking w n room v     == the walk v is answered with the allowance n, into a header buffer of that room
+-- Assumes nothing: these are definitions.
+use Prim.Native.Nat.{ℕ}
+use mathlib.Core.List.{List, [], _∷_, _++_}
+use mathlib.Core.Bool.{Bool, true, false, _||_}
+use lib.Dec.{ltb}
+use lib.ListN.{length, drop}
+use Rattle.model.specs.Cube.{shown}
+use Rattle.model.specs.Difference.{Region}
+use Rattle.model.specs.Walk.{Found, Decision, undecided, empty, member, decide}
+use Rattle.answer.specs.declared.Answer.{Answer}
+use Rattle.answer.specs.Answer.{said, fault, counted, showing, wrote}
+use Rattle.format.specs.Rows.{Rows, last, row, below, is, isnt, so}
+use Rattle.format.specs.Limits.{widest, mostCuts, mostDifferences}
+use Rattle.format.specs.Bytes.{headerLen, bits, anyBit, writeHeader, lentFault}
+use Rattle.format.specs.Records.{differenceFault, fileBytes}
+use Rattle.format.specs.Files.{readFile, faultNumber, faultOffset}
+
+pub record Told : Type 0 where
+  pub answer : Answer
+  pub bytes : List ℕ
+
+-- "Successful writing touches the first bytes written and none after."
+abbrev pub over : List ℕ → List ℕ → List ℕ
+over old new = new ++ drop (length new) old
+
+-- "Every refusal, and answers 1 and 3, write nothing."
+abbrev pub silent : Answer → Told
+silent a = record { answer = a; bytes = [] }
+
+-- "10: W is 0 or above 320"; "for 10 where W is given directly" operand and offset are 0
+abbrev pub wide : ℕ → Rows Told → Rows Told
+wide w k =
+    row (is w 0) (silent (said 10))
+    (row (below widest w) (silent (said 10))
+    k)
+
+-- "A lent cube's fault has its operand and offset 0."
+abbrev pub lentCube : ℕ → List ℕ → ℕ → Rows Told → Rows Told
+lentCube w c operand k =
+    row (isnt (lentFault w c) 0) (silent (fault (lentFault w c) operand 0))
+    k
+
+-- "A single difference is lent as one kind 2 record with W beside it."
+abbrev pub lentRecord : ℕ → List ℕ → ℕ → Rows Told → Rows Told
+lentRecord w s operand k =
+    row (isnt (differenceFault true w 0 s 0) 0) (silent (fault (differenceFault true w 0 s 0) operand 0))
+    k
+
+-- "The offset is that of the record at fault in its operand."
+abbrev pub lentFile : List ℕ → ℕ → Rows Told → Rows Told
+lentFile s operand k =
+    row (isnt (faultNumber (readFile s)) 0) (silent (fault (faultNumber (readFile s)) operand (faultOffset (readFile s))))
+    k
+
+-- "11: a header or field value has the wrong length, or a bit set where zero is required"; `used` bits may be set
+abbrev pub lentBits : ℕ → ℕ → List ℕ → Rows Told → Rows Told
+lentBits n used bs k =
+    row (isnt (length bs) (headerLen n)) (silent (said 11))
+    (row (so (anyBit (drop used (bits bs)))) (silent (said 11))
+    k)
+
+abbrev pub lentHeader : ℕ → List ℕ → Rows Told → Rows Told
+lentHeader w h k = lentBits w w h k
+
+-- yes where b is true
+abbrev pub yesOr : Bool → Rows Told
+yesOr b =
+    row (so b) (silent (said 1))
+    (last (silent (said 2)))
+
+-- "22: the output buffer is too short"
+abbrev pub writing : List ℕ → ℕ → Rows Told
+writing bs room =
+    row (below room (length bs)) (silent (said 22))
+    (last (record { answer = wrote (length bs); bytes = bs }))
+
+abbrev pub anyLong : Region → Bool
+anyLong [] = false
+anyLong (d ∷ r) = ltb mostCuts (length (d .cuts)) || anyLong r
+
+-- "then 18 if any difference of the tidied result has too many cuts, 19, 22"
+abbrev pub writingRegion : ℕ → Region → ℕ → Rows Told
+writingRegion w r room =
+    row (so (anyLong r)) (silent (said 18))
+    (row (below mostDifferences (length r)) (silent (said 19))
+    (writing (fileBytes w r) room))
+
+abbrev pub deciding : ℕ → Decision → Told
+deciding w (undecided n) = silent (counted 3 n)
+deciding w (empty n) = silent (counted 1 n)
+deciding w (member n p) = record { answer = showing n (headerLen w); bytes = writeHeader (shown p) }
+
+-- "The header buffer's room is tested before any walk"
+abbrev pub walking : ℕ → ℕ → ℕ → Found → Rows Told
+walking w n room v =
+    row (below room (headerLen w)) (silent (said 22))
+    (last (deciding w (decide n v)))

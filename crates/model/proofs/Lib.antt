@@ -1,0 +1,3 @@
+-- The laws of the model.
+pub mod Bools
+pub mod Cubes

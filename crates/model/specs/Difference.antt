@@ -1,0 +1,34 @@
+-- Differences and regions as sets of headers.
+--   Difference         == a base and its cuts
+--   less b cs          == the difference of the base b and the cuts cs
+--   Region             == differences, in their order
+--   anyHolds cs h      == the header h is in at least one of the cubes cs
+--   inDifference d h   == h is in the base and in no cut
+--   inRegion r h       == h is in at least one difference of r
+-- Assumes nothing: these are definitions.
+use mathlib.Core.List.{List, [], _∷_}
+use mathlib.Core.Bool.{Bool, false, not, _&&_, _||_}
+use Rattle.model.specs.Cube.{Header, Cube, holds}
+
+pub record Difference : Type 0 where
+  pub base : Cube
+  pub cuts : List Cube
+
+abbrev pub less : Cube → List Cube → Difference
+less b cs = record { base = b; cuts = cs }
+
+abbrev pub Region : Type 0
+Region = List Difference
+
+abbrev pub anyHolds : List Cube → Header → Bool
+anyHolds [] h = false
+anyHolds (c ∷ cs) h = holds c h || anyHolds cs h
+
+-- "A header is in it if it is in the base and in no cut."
+abbrev pub inDifference : Difference → Header → Bool
+inDifference d h = holds (d .base) h && not (anyHolds (d .cuts) h)
+
+-- "A header is in it if it is in at least one."
+abbrev pub inRegion : Region → Header → Bool
+inRegion [] h = false
+inRegion (d ∷ r) h = inDifference d h || inRegion r h

@@ -1,0 +1,7 @@
+pub mod Cube
+pub mod Difference
+pub mod Tidy
+pub mod Algebra
+pub mod Fields
+pub mod Walk
+pub mod Ceiling

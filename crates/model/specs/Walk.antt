@@ -1,0 +1,102 @@
+-- The walk without an allowance, and what an allowance makes of it.
+--   opens x y       == the piece's code x leaves the position free and the cut's code y fixes it
+--   other y         == the code of the other value
+--   children p c    == for each position that c fixes and p leaves free, left to right, the piece to visit
+--   Survivor        == the piece that survived, or nothing
+--   Found           == what a walk comes to: the pieces visited, and what survived
+--   next u v        == the walk u, and then v if nothing survived in u
+--   inTurn f xs     == the walks f of xs, one after another up to the first survivor
+--   visit cs p      == to visit the piece p with the cuts cs left
+--   walk d          == the walk of a difference
+--   walkRegion r    == the walk of a region, difference by difference
+--   walkInclusion   == the walk of "a in b": that of the untidied pieces of a less b
+--   Decision        == undecided, empty or a member; each with its count of pieces
+--   decide n f      == what the allowance n makes of a walk
+-- Assumes nothing: these are definitions.
+use Prim.Native.Nat.{ℕ, _+_}
+use mathlib.Core.List.{List, [], _∷_, map}
+use mathlib.Core.Bool.{Bool, true, false, cond}
+use lib.Dec.{leb}
+use Rattle.model.specs.Cube.{Code, none, v0, v1, free, Cube, shares}
+use Rattle.model.specs.Difference.{Difference, Region}
+use Rattle.model.specs.Algebra.{subtraction}
+
+abbrev pub opens : Code → Code → Bool
+opens none y = false
+opens v0 y = false
+opens v1 y = false
+opens free none = false
+opens free v0 = true
+opens free v1 = true
+opens free free = false
+
+abbrev pub other : Code → Code
+other none = none
+other v0 = v1
+other v1 = v0
+other free = free
+
+-- "list left to right the positions it fixes and the piece leaves free. For each, visit the piece that agrees with the cut at the earlier ones and
+-- differs at this one"
+abbrev pub children : Cube → Cube → List Cube
+children [] c = []
+children (x ∷ p) [] = []
+children (x ∷ p) (y ∷ c) =
+    cond (opens x y) ((other y ∷ p) ∷ map (λ q. y ∷ q) (children p c)) (map (λ q. x ∷ q) (children p c))
+
+pub data Survivor : Type 0 where
+  nothing : Survivor
+  piece : Cube → Survivor
+
+pub record Found : Type 0 where
+  pub pieces : ℕ
+  pub survivor : Survivor
+
+abbrev pub joined : ℕ → Survivor → Found → Found
+joined n nothing v = record { pieces = n + v .pieces; survivor = v .survivor }
+joined n (piece p) v = record { pieces = n; survivor = piece p }
+
+abbrev pub next : Found → Found → Found
+next u v = joined (u .pieces) (u .survivor) v
+
+abbrev pub inTurn : {A : Type 0} → (A → Found) → List A → Found
+inTurn f [] = record { pieces = 0; survivor = nothing }
+inTurn f (x ∷ xs) = next (f x) (inTurn f xs)
+
+-- "count one": a visit before what follows of it
+abbrev pub counted : Found → Found
+counted v = record { pieces = 1 + v .pieces; survivor = v .survivor }
+
+-- "To visit a piece with cuts left: count one. With no cuts left, the piece survives .. Otherwise look at the next cut. If it shares no header with the
+-- piece, pass to the next cut, same visit. .. with the cuts after. No such position means the piece is covered."
+unfoldable pub visit : List Cube → Cube → Found
+visit [] p = record { pieces = 1; survivor = piece p }
+visit (c ∷ cs) p =
+    let met = counted (inTurn (visit cs) (children p c)) in
+    let passed = visit cs p in
+    cond (shares p c) met passed
+
+-- "The walk uses cuts as lent, untidied, and starts at the base."
+abbrev pub walk : Difference → Found
+walk d = visit (d .cuts) (d .base)
+
+-- "A region is walked difference by difference"
+abbrev pub walkRegion : Region → Found
+walkRegion r = inTurn walk r
+
+-- "Inclusion of A in B walks the untidied pieces of A less B, in that order, to the first member"
+abbrev pub walkInclusion : Difference → Difference → Found
+walkInclusion a b = walkRegion (subtraction a b)
+
+pub data Decision : Type 0 where
+  undecided : ℕ → Decision
+  empty : ℕ → Decision
+  member : ℕ → Cube → Decision
+
+abbrev pub decided : ℕ → Survivor → Decision
+decided n nothing = empty n
+decided n (piece p) = member n p
+
+-- "Undecided reports the allowance as its count."
+unfoldable pub decide : ℕ → Found → Decision
+decide n v = cond (leb (v .pieces) n) (decided (v .pieces) (v .survivor)) (undecided n)
