@@ -1,3 +1,4 @@
 -- The laws of the format.
 pub mod Reached
+pub mod Coding
 pub mod Figures

@@ -1,4 +1,5 @@
 -- What the bytes of a header and of a cube mean.
+--   Bytes bs                    == every number of bs is a byte
 --   headerLen w, cubeLen w      == how many bytes a header and a cube of w positions take
 --   bits bs                     == the bits of bytes, eight to a byte, the one of weight 128 first
 --   readHeader w bs             == the header of w positions in bs
@@ -12,12 +13,16 @@
 --   cubeFault w bs              == what is wrong with the cube of w positions in as many bytes as it takes: 13, 14, or 0
 --   lentFault w bs              == the same of a lent cube, whose length may be wrong: 12, 13, 14, or 0
 -- Assumes nothing: these are definitions.
-use Prim.Native.Nat.{ℕ, zero, suc, _+_, _*_, _/_, _%_}
+use Prim.Native.Nat.{ℕ, zero, suc, _+_, _*_, _/_, _%_, _<_}
 use mathlib.Core.List.{List, [], _∷_}
 use mathlib.Core.Bool.{Bool, true, false, not, _&&_, _||_, cond}
 use lib.ListN.{length, getD, take, drop}
 use Rattle.model.specs.Cube.{Header, Code, none, v0, v1, free, Cube, solid}
 use Rattle.format.specs.Rows.{Rows, last, row, isnt, so, outcome}
+
+abbrev pub Bytes : List ℕ → Type 0
+Bytes [] = Unit {0}
+Bytes (b ∷ bs) = (b < 256) × Bytes bs
 
 -- "A header takes ceil(W/8) bytes" .. "A cube takes ceil(W/4) bytes"
 abbrev pub headerLen : ℕ → ℕ

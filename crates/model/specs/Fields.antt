@@ -1,5 +1,6 @@
 -- Prefix constraints and equality of fields. A field starts at s and has n positions.
 --   bitCode b              == the code that fixes the bit b
+--   sameBits u v           == u and v are the same bits
 --   prefixCube w s m v     == the cube of w positions that fixes those from s on to the first m bits of v
 --   apart w p q x y        == the cube of w positions with the code x at p and y at q
 --   unequal w p q n        == for each of n positions from p and from q on, the cut with 0 and 1, then the cut with 1 and 0
@@ -7,7 +8,7 @@
 -- Assumes nothing: these are definitions.
 use Prim.Native.Nat.{ℕ, zero, suc, _+_, _-_}
 use mathlib.Core.List.{List, [], _∷_, _++_, map}
-use mathlib.Core.Bool.{Bool, true, false, cond}
+use mathlib.Core.Bool.{Bool, true, false, _&&_, cond, Bool·beq}
 use lib.Dec.{eqb}
 use lib.ListN.{take, set, replicate}
 use Rattle.model.specs.Cube.{Header, Code, v0, v1, free, Cube}
@@ -16,6 +17,13 @@ use Rattle.model.specs.Difference.{Difference, less}
 abbrev pub bitCode : Bool → Code
 bitCode true = v1
 bitCode false = v0
+
+-- equality of bit lists: of one length, and bit by bit
+abbrev pub sameBits : Header → Header → Bool
+sameBits [] [] = true
+sameBits [] (b ∷ v) = false
+sameBits (a ∷ u) [] = false
+sameBits (a ∷ u) (b ∷ v) = Bool·beq a b && sameBits u v
 
 -- "The cube fixes the first m positions of the field"
 unfoldable pub prefixCube : ℕ → ℕ → ℕ → Header → Cube

@@ -1,5 +1,6 @@
 pub mod Cube
 pub mod Difference
+pub mod Sized
 pub mod Tidy
 pub mod Algebra
 pub mod Fields

@@ -1,0 +1,198 @@
+-- Cubes with unused places behind their positions: as free positions they change nothing. Assumes nothing.
+--   pad u c             the cube c with u free places behind it
+--   Lengths w cs        every cube of cs has w positions
+--   sized-lengths       cubes of w positions have them
+--   meet-pad, solid-pad, shares-pad, same-pad, within-pad, holds-pad, frees-pad    each test and operation on cubes
+--   children-pad, visit-pad    the walk
+--   tidy-pad            tidying
+--   ceiling-pad         the ceiling
+use Prim.Native.Nat.{ℕ, zero, suc, _+_}
+use native.Mathlib.Omega.{arith}
+use mathlib.Core.Path.{_≡_, refl, sym, ap, ap₂, _∙_}
+use mathlib.Core.List.{List, [], _∷_, _++_, map}
+use mathlib.Core.Bool.{Bool, true, false, _&&_, _||_, cond}
+use lib.ListN.{length, replicate}
+use Rattle.model.specs.Cube.{Header, Code, free, Cube, admits, holds, meetCode, meet, coded, solid, shares, sameCode, same, within}
+use Rattle.model.specs.Difference.{Difference, less, Region}
+use Rattle.model.specs.Sized.{All, Sized}
+use Rattle.model.specs.Tidy.{among, tidyFrom}
+use Rattle.model.specs.Walk.{opens, other, children, Survivor, nothing, piece, Found, joined, next, inTurn, counted, visit}
+use Rattle.model.specs.Ceiling.{frees, ceilingFrom}
+
+abbrev pub pad : ℕ → Cube → Cube
+pad u c = c ++ replicate u free
+
+abbrev pub Lengths : ℕ → List Cube → Type 0
+Lengths w cs = All (λ c. length c ≡ w) cs
+
+pub sized-lengths : (w : ℕ) (cs : List Cube) → All (Sized w) cs → Lengths w cs
+sized-lengths w [] l = tt
+sized-lengths w (c ∷ cs) l = (l .0 .wide, sized-lengths w cs (l .1))
+
+uneven : {A : Type 0} (n : ℕ) → 0 ≡ suc n → A
+uneven n e = absurd (omega arith)
+
+-- cubes
+free-meet : (u : ℕ) → meet (replicate u free) (replicate u free) ≡ replicate u free
+free-meet zero = refl
+free-meet (suc u) = ap (λ (c : Cube). free ∷ c) (free-meet u)
+
+pub meet-pad : (u : ℕ) (a b : Cube) → length a ≡ length b → meet (pad u a) (pad u b) ≡ pad u (meet a b)
+meet-pad u [] [] e = free-meet u
+meet-pad u [] (y ∷ b) e = uneven (length b) e
+meet-pad u (x ∷ a) [] e = uneven (length a) (sym e)
+meet-pad u (x ∷ a) (y ∷ b) e = ap (λ (c : Cube). meetCode x y ∷ c) (meet-pad u a b (omega arith))
+
+pub length-meet : (a b : Cube) → length a ≡ length b → length (meet a b) ≡ length a
+length-meet [] [] e = refl
+length-meet [] (y ∷ b) e = uneven (length b) e
+length-meet (x ∷ a) [] e = uneven (length a) (sym e)
+length-meet (x ∷ a) (y ∷ b) e = ap suc (length-meet a b (omega arith))
+
+pub solid-pad : (u : ℕ) (c : Cube) → solid (pad u c) ≡ solid c
+solid-pad zero [] = refl
+solid-pad (suc u) [] = solid-pad u []
+solid-pad u (x ∷ c) = ap (λ (b : Bool). coded x && b) (solid-pad u c)
+
+pub shares-pad : (u : ℕ) (a b : Cube) → length a ≡ length b → shares (pad u a) (pad u b) ≡ shares a b
+shares-pad u a b e = ap solid (meet-pad u a b e) ∙ solid-pad u (meet a b)
+
+pub same-pad : (u : ℕ) (a b : Cube) → length a ≡ length b → same (pad u a) (pad u b) ≡ same a b
+same-pad zero [] [] e = refl
+same-pad (suc u) [] [] e = same-pad u [] [] e
+same-pad u [] (y ∷ b) e = uneven (length b) e
+same-pad u (x ∷ a) [] e = uneven (length a) (sym e)
+same-pad u (x ∷ a) (y ∷ b) e = ap (λ (t : Bool). sameCode x y && t) (same-pad u a b (omega arith))
+
+pub within-pad : (u : ℕ) (a b : Cube) → length a ≡ length b → within (pad u a) (pad u b) ≡ within a b
+within-pad u a b e = ap (λ (c : Cube). same c (pad u a)) (meet-pad u a b e) ∙ same-pad u (meet a b) a (length-meet a b e)
+
+pub holds-pad : (u : ℕ) (c : Cube) (h r : Header) → length h ≡ length c → length r ≡ u → holds (pad u c) (h ++ r) ≡ holds c h
+holds-pad zero [] [] [] e f = refl
+holds-pad zero [] [] (b ∷ r) e f = uneven (length r) (sym f)
+holds-pad (suc u) [] [] [] e f = uneven u f
+holds-pad (suc u) [] [] (b ∷ r) e f = holds-pad u [] [] r e (omega arith)
+holds-pad u [] (b ∷ h) r e f = uneven (length h) (sym e)
+holds-pad u (x ∷ c) [] r e f = uneven (length c) e
+holds-pad u (x ∷ c) (b ∷ h) r e f = ap (λ (t : Bool). admits x b && t) (holds-pad u c h r (omega arith) f)
+
+-- the walk
+map-cons : (u : ℕ) (y : Code) (qs : List Cube) → map (λ q. y ∷ q) (map (pad u) qs) ≡ map (pad u) (map (λ q. y ∷ q) qs)
+map-cons u y [] = refl
+map-cons u y (q ∷ qs) = ap (λ (l : List Cube). (y ∷ pad u q) ∷ l) (map-cons u y qs)
+
+free-children : (u : ℕ) → children (replicate u free) (replicate u free) ≡ []
+free-children zero = refl
+free-children (suc u) = ap (map (λ q. free ∷ q)) (free-children u)
+
+pub children-pad : (u : ℕ) (p c : Cube) → length p ≡ length c → children (pad u p) (pad u c) ≡ map (pad u) (children p c)
+children-pad u [] [] e = free-children u
+children-pad u [] (y ∷ c) e = uneven (length c) e
+children-pad u (x ∷ p) [] e = uneven (length p) (sym e)
+children-pad u (x ∷ p) (y ∷ c) e = go (opens x y) (children-pad u p c (omega arith))
+  where
+    go : (b : Bool) → children (pad u p) (pad u c) ≡ map (pad u) (children p c)
+        → cond b ((other y ∷ pad u p) ∷ map (λ q. y ∷ q) (children (pad u p) (pad u c))) (map (λ q. x ∷ q) (children (pad u p) (pad u c)))
+        ≡ map (pad u) (cond b ((other y ∷ p) ∷ map (λ q. y ∷ q) (children p c)) (map (λ q. x ∷ q) (children p c)))
+    go true ih = ap (λ (l : List Cube). (other y ∷ pad u p) ∷ l) (ap (map (λ q. y ∷ q)) ih ∙ map-cons u y (children p c))
+    go false ih = ap (map (λ q. x ∷ q)) ih ∙ map-cons u x (children p c)
+
+lengths-map : (w : ℕ) (y : Code) (qs : List Cube) → Lengths w qs → Lengths (suc w) (map (λ q. y ∷ q) qs)
+lengths-map w y [] l = tt
+lengths-map w y (q ∷ qs) l = (ap suc (l .0), lengths-map w y qs (l .1))
+
+pub children-lengths : (p c : Cube) → Lengths (length p) (children p c)
+children-lengths [] c = tt
+children-lengths (x ∷ p) [] = tt
+children-lengths (x ∷ p) (y ∷ c) = go (opens x y) (children-lengths p c)
+  where
+    go : (b : Bool) → Lengths (length p) (children p c) → Lengths (suc (length p)) (cond b ((other y ∷ p) ∷ map (λ q. y ∷ q) (children p c)) (map (λ q. x ∷ q) (children p c)))
+    go true l = (refl, lengths-map (length p) y (children p c) l)
+    go false l = lengths-map (length p) x (children p c) l
+
+abbrev pub padSurvivor : ℕ → Survivor → Survivor
+padSurvivor u nothing = nothing
+padSurvivor u (piece p) = piece (pad u p)
+
+abbrev pub padFound : ℕ → Found → Found
+padFound u v = record { pieces = v .pieces; survivor = padSurvivor u (v .survivor) }
+
+next-pad : (u n : ℕ) (s : Survivor) (v : Found) → joined n (padSurvivor u s) (padFound u v) ≡ padFound u (joined n s v)
+next-pad u n nothing v = refl
+next-pad u n (piece p) v = refl
+
+module _ (u w : ℕ) (f g : Cube → Found) (e : (q : Cube) → length q ≡ w → g (pad u q) ≡ padFound u (f q)) where
+  in-turn-pad : (qs : List Cube) → Lengths w qs → inTurn g (map (pad u) qs) ≡ padFound u (inTurn f qs)
+  in-turn-pad [] l = refl
+  in-turn-pad (q ∷ qs) l = ap₂ next (e q (l .0)) (in-turn-pad qs (l .1)) ∙ next-pad u (f q .pieces) (f q .survivor) (inTurn f qs)
+
+pub visit-pad : (u w : ℕ) (cs : List Cube) (p : Cube) → Lengths w cs → length p ≡ w → visit (map (pad u) cs) (pad u p) ≡ padFound u (visit cs p)
+unfolding visit
+visit-pad u w [] p l e = refl
+visit-pad u w (c ∷ cs) p l e =
+    rw (shares-pad u p c (e ∙ sym (l .0)), children-pad u p c (e ∙ sym (l .0)), visit-pad u w cs p (l .1) e, in-turn-pad u w (visit cs) (visit (map (pad u) cs)) (λ q h. visit-pad u w cs q (l .1) h) (children p c) (rw e at (children-lengths p c)))
+    (go (shares p c))
+  where
+    go : (b : Bool) → cond b (counted (padFound u (inTurn (visit cs) (children p c)))) (padFound u (visit cs p)) ≡ padFound u (cond b (counted (inTurn (visit cs) (children p c))) (visit cs p))
+    go true = refl
+    go false = refl
+
+-- the ceiling
+free-frees : (u : ℕ) → frees (replicate u free) (replicate u free) ≡ 0
+unfolding frees
+free-frees zero = refl
+free-frees (suc u) = ap (λ (n : ℕ). 0 + n) (free-frees u)
+
+pub frees-pad : (u : ℕ) (b c : Cube) → length b ≡ length c → frees (pad u b) (pad u c) ≡ frees b c
+unfolding frees
+frees-pad u [] [] e = free-frees u
+frees-pad u [] (y ∷ c) e = uneven (length c) e
+frees-pad u (x ∷ b) [] e = uneven (length b) (sym e)
+frees-pad u (x ∷ b) (y ∷ c) e = ap (λ (n : ℕ). cond (opens x y) 1 0 + n) (frees-pad u b c (omega arith))
+
+pub ceiling-pad : (u w : ℕ) (b : Cube) (cs : List Cube) → length b ≡ w → Lengths w cs → ceilingFrom (pad u b) (map (pad u) cs) ≡ ceilingFrom b cs
+unfolding ceilingFrom
+ceiling-pad u w b [] e l = refl
+ceiling-pad u w b (c ∷ cs) e l = rw (shares-pad u b c (e ∙ sym (l .0)), frees-pad u b c (e ∙ sym (l .0)), ceiling-pad u w b cs e (l .1))
+
+-- tidying
+among-pad : (u w : ℕ) (c : Cube) (ks : List Cube) → length c ≡ w → Lengths w ks → among (pad u c) (map (pad u) ks) ≡ among c ks
+among-pad u w c [] e l = refl
+among-pad u w c (k ∷ ks) e l = ap₂ (λ (a b : Bool). a || b) (same-pad u c k (e ∙ sym (l .0))) (among-pad u w c ks e (l .1))
+
+map-snoc : (u : ℕ) (ks : List Cube) (c : Cube) → map (pad u) (ks ++ (c ∷ [])) ≡ map (pad u) ks ++ (pad u c ∷ [])
+map-snoc u [] c = refl
+map-snoc u (k ∷ ks) c = ap (λ (l : List Cube). pad u k ∷ l) (map-snoc u ks c)
+
+lengths-snoc : (w : ℕ) (ks : List Cube) (c : Cube) → Lengths w ks → length c ≡ w → Lengths w (ks ++ (c ∷ []))
+lengths-snoc w [] c l e = (e, tt)
+lengths-snoc w (k ∷ ks) c l e = (l .0, lengths-snoc w ks c (l .1) e)
+
+abbrev pub padDifference : ℕ → Difference → Difference
+padDifference u d = less (pad u (d .base)) (map (pad u) (d .cuts))
+
+pub tidy-pad : (u w : ℕ) (base : Cube) (kept cuts : List Cube) → length base ≡ w → Lengths w kept → Lengths w cuts
+    → tidyFrom (pad u base) (map (pad u) kept) (map (pad u) cuts) ≡ map (padDifference u) (tidyFrom base kept cuts)
+unfolding tidyFrom
+tidy-pad u w base kept [] e k l = refl
+tidy-pad u w base kept (c ∷ cuts) e k l =
+    let ec = e ∙ sym (l .0) in
+    let em = length-meet base c ec ∙ e in
+    let more = tidy-pad u w base (kept ++ (meet base c ∷ [])) cuts e (lengths-snoc w kept (meet base c) k em) (l .1) in
+    rw (shares-pad u base c ec, meet-pad u base c ec, same-pad u (meet base c) base (em ∙ sym e), among-pad u w (meet base c) kept em k, tidy-pad u w base kept cuts e k (l .1), ← map-snoc u kept (meet base c), more)
+    (go (shares base c) (same (meet base c) base) (among (meet base c) kept))
+  where
+    P : Region → Region
+    P r = map (padDifference u) r
+
+    D : Region
+    D = tidyFrom base kept cuts
+
+    M : Region
+    M = tidyFrom base (kept ++ (meet base c ∷ [])) cuts
+
+    go : (s b a : Bool) → cond s (cond b [] (cond a (P D) (P M))) (P D) ≡ P (cond s (cond b [] (cond a D M)) D)
+    go true true a = refl
+    go true false true = refl
+    go true false false = refl
+    go false b a = refl
