@@ -1,7 +1,13 @@
 -- The laws of the model.
 pub mod Bools
 pub mod Cubes
+pub mod Parts
 pub mod Padding
 pub mod Tidying
 pub mod Setting
 pub mod Field
+pub mod Walking
+pub mod Including
+pub mod Bound
+pub mod Allowed
+pub mod Alike

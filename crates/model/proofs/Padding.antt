@@ -18,6 +18,7 @@ use Rattle.model.specs.Sized.{All, Sized}
 use Rattle.model.specs.Tidy.{among, tidyFrom}
 use Rattle.model.specs.Walk.{opens, other, children, Survivor, nothing, piece, Found, joined, next, inTurn, counted, visit}
 use Rattle.model.specs.Ceiling.{frees, ceilingFrom}
+use Rattle.model.proofs.Parts.{children-length}
 
 abbrev pub pad : ℕ → Cube → Cube
 pad u c = c ++ replicate u free
@@ -97,19 +98,6 @@ children-pad u (x ∷ p) (y ∷ c) e = go (opens x y) (children-pad u p c (omega
     go true ih = ap (λ (l : List Cube). (other y ∷ pad u p) ∷ l) (ap (map (λ q. y ∷ q)) ih ∙ map-cons u y (children p c))
     go false ih = ap (map (λ q. x ∷ q)) ih ∙ map-cons u x (children p c)
 
-lengths-map : (w : ℕ) (y : Code) (qs : List Cube) → Lengths w qs → Lengths (suc w) (map (λ q. y ∷ q) qs)
-lengths-map w y [] l = tt
-lengths-map w y (q ∷ qs) l = (ap suc (l .0), lengths-map w y qs (l .1))
-
-pub children-lengths : (p c : Cube) → Lengths (length p) (children p c)
-children-lengths [] c = tt
-children-lengths (x ∷ p) [] = tt
-children-lengths (x ∷ p) (y ∷ c) = go (opens x y) (children-lengths p c)
-  where
-    go : (b : Bool) → Lengths (length p) (children p c) → Lengths (suc (length p)) (cond b ((other y ∷ p) ∷ map (λ q. y ∷ q) (children p c)) (map (λ q. x ∷ q) (children p c)))
-    go true l = (refl, lengths-map (length p) y (children p c) l)
-    go false l = lengths-map (length p) x (children p c) l
-
 abbrev pub padSurvivor : ℕ → Survivor → Survivor
 padSurvivor u nothing = nothing
 padSurvivor u (piece p) = piece (pad u p)
@@ -130,7 +118,7 @@ pub visit-pad : (u w : ℕ) (cs : List Cube) (p : Cube) → Lengths w cs → len
 unfolding visit
 visit-pad u w [] p l e = refl
 visit-pad u w (c ∷ cs) p l e =
-    rw (shares-pad u p c (e ∙ sym (l .0)), children-pad u p c (e ∙ sym (l .0)), visit-pad u w cs p (l .1) e, in-turn-pad u w (visit cs) (visit (map (pad u) cs)) (λ q h. visit-pad u w cs q (l .1) h) (children p c) (rw e at (children-lengths p c)))
+    rw (shares-pad u p c (e ∙ sym (l .0)), children-pad u p c (e ∙ sym (l .0)), visit-pad u w cs p (l .1) e, in-turn-pad u w (visit cs) (visit (map (pad u) cs)) (λ q h. visit-pad u w cs q (l .1) h) (children p c) (rw e at (children-length p c)))
     (go (shares p c))
   where
     go : (b : Bool) → cond b (counted (padFound u (inTurn (visit cs) (children p c)))) (padFound u (visit cs p)) ≡ padFound u (cond b (counted (inTurn (visit cs) (children p c))) (visit cs p))

@@ -6,3 +6,4 @@ pub mod Algebra
 pub mod Fields
 pub mod Walk
 pub mod Ceiling
+pub mod Alike

@@ -11,6 +11,7 @@
 --   walkRegion r    == the walk of a region, difference by difference
 --   walkInclusion   == the walk of "a in b": that of the untidied pieces of a less b
 --   Decision        == undecided, empty or a member; each with its count of pieces
+--   countOf d       == the count of pieces of a decision
 --   decide n f      == what the allowance n makes of a walk
 -- Assumes nothing: these are definitions.
 use Prim.Native.Nat.{ℕ, _+_}
@@ -92,6 +93,11 @@ pub data Decision : Type 0 where
   undecided : ℕ → Decision
   empty : ℕ → Decision
   member : ℕ → Cube → Decision
+
+abbrev pub countOf : Decision → ℕ
+countOf (undecided n) = n
+countOf (empty n) = n
+countOf (member n p) = n
 
 abbrev pub decided : ℕ → Survivor → Decision
 decided n nothing = empty n
