@@ -6,6 +6,7 @@ pub mod Padding
 pub mod Tidying
 pub mod Setting
 pub mod Field
+pub mod Slips
 pub mod Walking
 pub mod Including
 pub mod Bound
