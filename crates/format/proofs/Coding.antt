@@ -3,6 +3,7 @@
 --   fault-solid, fault-free  what an accepted cube is: no code 0 at a position, every unused place 3
 --   read-length, read-padded the cube read has its w positions, and the bytes hold it with the unused places behind it
 --   write-padded, read-write the bytes written hold the cube, and it is read again
+--   write-accepted           the bytes written of a cube without `none` are accepted
 --   write-read               an accepted cube is written again with the same bytes
 use Prim.Native.Nat.{ℕ, zero, suc, _+_, _-_, _*_, _/_, _%_, _^_, _≤_, _<_}
 use native.Mathlib.Nat.{div-one}
@@ -12,12 +13,12 @@ use mathlib.Core.List.{List, [], _∷_, _++_}
 use mathlib.Core.Bool.{true, false, not}
 use borrow.Author.Tests.{not-false}
 use lib.ListN.{length, getD, take, drop, replicate, length-drop, take-append-drop}
-use lib.Seq.{length-take-le, take-at}
+use lib.Seq.{length-take-le, take-at, drop-at}
 use Rattle.model.specs.Cube.{Code, none, v0, v1, free, Cube, solid}
 use Rattle.model.proofs.Bools.{and-left, and-right}
 use Rattle.model.proofs.Padding.{pad}
 use Rattle.format.specs.Bytes.{Bytes, cubeLen, codeOf, numberOf, codes, readCube, cubeBytes, writeCube, isFree, allFree, cubeRows, cubeFault}
-use Rattle.format.proofs.Reached.{clean}
+use Rattle.format.proofs.Reached.{reached, clean}
 
 -- positions
 pub length-codes : (bs : List ℕ) → length (codes bs) ≡ 4 * length bs
@@ -144,6 +145,19 @@ pub read-write : (c : Cube) → readCube (length c) (writeCube c) ≡ c
 unfolding readCube
 read-write c =
     ap (take (length c)) (write-padded (cubeLen (length c)) c (omega arith)) ∙ take-at c (replicate (4 * cubeLen (length c) - length c) free) (length c) refl
+
+all-free : (n : ℕ) → allFree (replicate n free) ≡ true
+all-free zero = refl
+all-free (suc n) = all-free n
+
+pub write-accepted : (c : Cube) → solid c ≡ true → cubeFault (length c) (writeCube c) ≡ 0
+unfolding cubeFault
+write-accepted c e =
+    let spare = 4 * cubeLen (length c) - length c in
+    let p : not (solid (readCube (length c) (writeCube c))) ≡ false = rw (read-write c, e) in
+    let q : not (allFree (drop (length c) (codes (writeCube c)))) ≡ false =
+    rw (write-padded (cubeLen (length c)) c (omega arith), drop-at c (replicate spare free) (length c) refl, all-free spare) in
+    sym (reached 2 (cubeRows (length c) (writeCube c)) (p, (q, tt)))
 
 -- bytes are told by their codes
 digit : (x y : ℕ) → x < 4 → y < 4 → codeOf x ≡ codeOf y → x ≡ y

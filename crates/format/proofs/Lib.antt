@@ -1,4 +1,5 @@
 -- The laws of the format.
 pub mod Reached
 pub mod Coding
+pub mod Recording
 pub mod Figures
