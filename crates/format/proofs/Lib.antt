@@ -2,4 +2,5 @@
 pub mod Reached
 pub mod Coding
 pub mod Recording
+pub mod Filing
 pub mod Figures

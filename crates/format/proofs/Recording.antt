@@ -1,6 +1,6 @@
 -- Kind 2 records: what an accepted one holds, and that reading and writing undo one another. Assumes nothing.
 --   drop-past                what stands behind a front that stands at an offset
---   byte-at                  a byte of bytes is below 256
+--   u16-same                 a number in two bytes is written again with the same bytes
 --   length-written           how long the record of a difference is
 --   length-read, kind-read, count-read, next-read, difference-read, record-accepted
 --                            of a record that was written and stands at an offset: its parts, its end, its difference, and that it is accepted
@@ -56,13 +56,21 @@ bytes-drop zero bs h = h
 bytes-drop (suc n) [] h = tt
 bytes-drop (suc n) (b ∷ bs) h = bytes-drop n bs (h .1)
 
-pub byte-at : (bs : List ℕ) (i : ℕ) → Bytes bs → getD bs i 0 < 256
+byte-at : (bs : List ℕ) (i : ℕ) → Bytes bs → getD bs i 0 < 256
 byte-at [] i h = omega arith
 byte-at (b ∷ bs) zero h = h .0
 byte-at (b ∷ bs) (suc i) h = byte-at bs i (h .1)
 
 high-byte : (a b : ℕ) → a < 256 → b < 256 → (a + 256 * b) / 256 % 256 ≡ b
 high-byte a b h k = let q : (a + 256 * b) / 256 ≡ b = omega arith in rw q (omega arith)
+
+pub u16-same : (s : List ℕ) (at : ℕ) → Bytes s → at + 2 ≤ length s → drop at s ≡ u16Bytes (u16At s at) ++ drop (at + 2) s
+u16-same s at b h =
+    let l = byte-at s at b in
+    let m = byte-at s (at + 1) b in
+    let low : u16At s at % 256 ≡ getD s at 0 = omega arith in
+    let high = high-byte (getD s at 0) (getD s (at + 1) 0) l m in
+    rw (next-byte s at (at + 1) (omega arith) (omega arith), next-byte s (at + 1) (at + 2) (omega arith) (omega arith), low, high)
 
 -- cubes, written
 writes-long : (w : ℕ) (c : Cube) → Sized w c → length (writeCube c) ≡ cubeLen w
@@ -233,26 +241,15 @@ module _ {alone : Bool} {w n : ℕ} {s : List ℕ} {at : ℕ} (r : Record alone 
       let g = cubes-good w s (suc (countAt s at)) (at + 5) (omega arith) (rw add-one at (r .cubes)) in
       record { base = g .0; cuts = g .1 }
 
-  front : drop at s ≡ getD s at 0 ∷ getD s (at + 1) 0 ∷ getD s (at + 2) 0 ∷ getD s (at + 2 + 1) 0 ∷ countAt s at ∷ drop (at + 5) s
-  front =
-      rw (
-        next-byte s at (at + 1) (omega arith) (omega arith),
-        next-byte s (at + 1) (at + 2) (omega arith) (omega arith),
-        next-byte s (at + 2) (at + 2 + 1) (omega arith) (omega arith),
-        next-byte s (at + 2 + 1) (at + 4) (omega arith) (omega arith),
-        next-byte s (at + 4) (at + 5) (omega arith) (omega arith),
-      )
+  front : Bytes s → drop at s ≡ u16Bytes (differenceLen (countAt s at) w) ++ (u16Bytes differenceKind ++ (countAt s at ∷ drop (at + 5) s))
+  front b =
+      let z : at + 2 + 2 ≡ at + 4 = omega arith in
+      rw (u16-same s at b (omega arith), u16-same s (at + 2) b (omega arith), z, next-byte s (at + 4) (at + 5) (omega arith) (omega arith), r .size, r .kind)
 
   pub bytes-read : Bytes s → differenceBytes w (differenceAt w s at) ≡ take (2 + lengthAt s at) (drop at s)
   unfolding differenceBytes cubesAt
   bytes-read b =
       let k = countAt s at in
       let all = cubes-same w s (suc k) (at + 5) b (omega arith) (rw add-one at (r .cubes)) in
-      let h0 = byte-at s at b in
-      let h1 = byte-at s (at + 1) b in
-      let n0 : differenceLen k w % 256 ≡ getD s at 0 = omega arith in
-      let n1 : differenceLen k w / 256 % 256 ≡ getD s (at + 1) 0 = rw (← r .size) (high-byte (getD s at 0) (getD s (at + 1) 0) h0 h1) in
-      let n2 : 2 ≡ getD s (at + 2) 0 = omega arith in
-      let n3 : 0 ≡ getD s (at + 2 + 1) 0 = omega arith in
       let l : 2 + lengthAt s at ≡ suc (suc (suc (suc (suc (suc k * cubeLen w))))) = omega arith in
-      rw (l, front, cuts-count, n0, n1, ← n2, ← n3, all)
+      rw (l, front b, cuts-count, all)
