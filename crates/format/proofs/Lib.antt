@@ -1,6 +1,7 @@
 -- The laws of the format.
 pub mod Reached
 pub mod Coding
+pub mod Heading
 pub mod Recording
 pub mod Filing
 pub mod Figures
