@@ -1,0 +1,10 @@
+pub mod Every
+pub mod Octets
+pub mod Codes
+pub mod Loops
+pub mod Steps
+pub mod Pairs
+pub mod Parts
+pub mod Faults
+pub mod Headers
+pub mod Spelling

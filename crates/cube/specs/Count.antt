@@ -1,0 +1,13 @@
+-- How many positions a cube leaves free.
+--   freeCount c    == the number of codes `free` in c
+-- Assumes nothing: these are definitions.
+use Prim.Native.Nat.{ℕ, suc}
+use mathlib.Core.List.{[], _∷_}
+use Rattle.model.specs.Cube.{Cube, none, v0, v1, free}
+
+abbrev pub freeCount : Cube → ℕ
+freeCount [] = 0
+freeCount (none ∷ c) = freeCount c
+freeCount (v0 ∷ c) = freeCount c
+freeCount (v1 ∷ c) = freeCount c
+freeCount (free ∷ c) = suc (freeCount c)

@@ -1,0 +1,19 @@
+// Header bytes and cube bytes: how many there are, what is wrong with them, whether cubes meet and lie in each other.
+mod fault;
+mod header;
+mod pair;
+mod size;
+mod table;
+
+pub use fault::cube_fault;
+pub use fault::lent_fault;
+pub use header::bits_after;
+pub use header::header_fault;
+pub use header::spelled;
+pub use pair::lies_in;
+pub use pair::meet_into;
+pub use pair::meets;
+pub use size::cube_len;
+pub use size::header_len;
+pub use table::code_zero;
+pub use table::free_places;

@@ -1,0 +1,25 @@
+// How many bytes headers and cubes take.
+ghost use mathlib.Core.Path.{_≡_};
+ghost use Prim.Native.Nat.{min};
+ghost use Rattle.format.specs.Bytes.{headerLen, cubeLen};
+
+// The bytes of a cube of w positions.
+pub fn cube_len(w: usize) -> usize
+    ensures { λ r. ⌜ r ≡ cubeLen w ⌝ }
+{
+    w / 4 + (w % 4 + 3) / 4
+}
+
+// The bytes of a header of w positions.
+pub fn header_len(w: usize) -> usize
+    ensures { λ r. ⌜ r ≡ headerLen w ⌝ }
+{
+    w / 8 + (w % 8 + 7) / 8
+}
+
+// The smaller of two numbers.
+pub fn least(m: usize, n: usize) -> usize
+    ensures { λ r. ⌜ r ≡ min m n ⌝ }
+{
+    if m < n { m } else { n }
+}
