@@ -2,7 +2,7 @@
 use mathlib.Core.Path.{_≡_, refl, sym, ap, _∙_}
 use mathlib.Core.List.{List, [], _∷_, _++_}
 use mathlib.Core.Bool.{Bool, true, false, _&&_, and-assoc, and-false, true≢false}
-use Prim.Native.Nat.{ℕ, zero, suc, _*_, _/_, _%_, _^_, _<_}
+use Prim.Native.Nat.{ℕ, zero, suc, _/_, _%_, _^_, _<_}
 use native.Mathlib.Nat.{mod-lt}
 use native.Mathlib.Omega.{arith}
 use lib.Bits.{bitAnd, and-shr, and-mod, and-le-l}
@@ -19,10 +19,6 @@ pub codes-append : (a b : List ℕ) → codes (a ++ b) ≡ codes a ++ codes b
 codes-append [] b = refl
 codes-append (x ∷ a) b =
     ap (λ (c : Cube). codeOf (x / 64 % 4) ∷ codeOf (x / 16 % 4) ∷ codeOf (x / 4 % 4) ∷ codeOf (x % 4) ∷ c) (codes-append a b)
-
-pub length-codes : (bs : List ℕ) → length (codes bs) ≡ 4 * length bs
-length-codes [] = refl
-length-codes (b ∷ bs) = let ih = length-codes bs in omega arith
 
 pub solid-append : (a b : Cube) → solid (a ++ b) ≡ solid a && solid b
 solid-append [] b = refl

@@ -14,9 +14,10 @@ use Rattle.model.specs.Cube.{solid}
 use Rattle.format.specs.Rows.{Rows, last, row, isnt, so, passes, outcome}
 use Rattle.format.specs.Bytes.{cubeLen, codes, readCube, allFree, cubeFault, lentRows, lentFault}
 use Rattle.format.proofs.Reached.{reached}
+use Rattle.format.proofs.Coding.{length-codes}
 use Rattle.cube.proofs.Every.{below2}
 use Rattle.cube.proofs.Parts.{take-parts, drop-parts}
-use Rattle.cube.proofs.Codes.{codes-append, length-codes, solid-append, free-append}
+use Rattle.cube.proofs.Codes.{codes-append, solid-append, free-append}
 
 -- a byte whose places from the q-th on are filled: its positions alone can hold code 0
 abbrev pub fill : ℕ → ℕ

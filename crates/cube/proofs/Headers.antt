@@ -2,7 +2,7 @@
 use mathlib.Core.Path.{_≡_, refl, sym, ap, _∙_}
 use mathlib.Core.List.{List, [], _∷_, _++_}
 use mathlib.Core.Bool.{Bool, true, false, not, _||_, cond, or-assoc}
-use Prim.Native.Nat.{ℕ, suc, _*_, _/_, _%_, _^_, _≤_, _<_}
+use Prim.Native.Nat.{ℕ, suc, _/_, _%_, _^_, _≤_, _<_}
 use native.Mathlib.Omega.{arith}
 use lib.Bits.{bitAnd}
 use lib.Dec.{eqb}
@@ -14,6 +14,7 @@ use Rattle.format.specs.Rows.{Rows, row, isnt, passes, outcome}
 use Rattle.format.specs.Bytes.{headerLen, bitOf, bits, anyBit}
 use Rattle.format.specs.Told.{Told, silent, lentBits}
 use Rattle.format.proofs.Reached.{reached, clean}
+use Rattle.format.proofs.Heading.{length-bits}
 use Rattle.cube.specs.Header.{bitsRows, bitsFault}
 use Rattle.cube.proofs.Every.{below2, agree, agree-eq}
 use Rattle.cube.proofs.Parts.{drop-parts}
@@ -23,10 +24,6 @@ bits-append [] b = refl
 bits-append (x ∷ a) b =
     ap (λ (h : Header). bitOf (x / 128 % 2) ∷ bitOf (x / 64 % 2) ∷ bitOf (x / 32 % 2) ∷ bitOf (x / 16 % 2)
     ∷ bitOf (x / 8 % 2) ∷ bitOf (x / 4 % 2) ∷ bitOf (x / 2 % 2) ∷ bitOf (x % 2) ∷ h) (bits-append a b)
-
-pub length-bits : (bs : List ℕ) → length (bits bs) ≡ 8 * length bs
-length-bits [] = refl
-length-bits (b ∷ bs) = let ih = length-bits bs in omega arith
 
 any-append : (a b : Header) → anyBit (a ++ b) ≡ anyBit a || anyBit b
 any-append [] b = refl

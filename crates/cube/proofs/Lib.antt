@@ -8,3 +8,6 @@ pub mod Parts
 pub mod Faults
 pub mod Headers
 pub mod Spelling
+pub mod Reading
+pub mod Refusals
+pub mod Calling

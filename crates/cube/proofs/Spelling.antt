@@ -14,10 +14,11 @@ use Rattle.model.specs.Cube.{Header, Code, none, v0, v1, free, Cube, admits, ho
 use Rattle.model.specs.Fields.{bitCode}
 use Rattle.model.proofs.Cubes.{same-is}
 use Rattle.format.specs.Bytes.{bits, codes}
+use Rattle.format.proofs.Heading.{length-bits}
 use Rattle.cube.specs.Header.{spelledCube}
 use Rattle.cube.proofs.Every.{below}
 use Rattle.cube.proofs.Codes.{codes-append}
-use Rattle.cube.proofs.Headers.{bits-append, length-bits}
+use Rattle.cube.proofs.Headers.{bits-append}
 
 bit-within : (b : Bool) (x : Code) → sameCode (meetCode (bitCode b) x) (bitCode b) ≡ admits x b
 bit-within true none = refl

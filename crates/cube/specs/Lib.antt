@@ -1,3 +1,4 @@
 pub mod Count
 pub mod Pair
 pub mod Header
+pub mod Call

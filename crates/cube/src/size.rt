@@ -3,6 +3,9 @@ ghost use mathlib.Core.Path.{_≡_};
 ghost use Prim.Native.Nat.{min};
 ghost use Rattle.format.specs.Bytes.{headerLen, cubeLen};
 
+// The most positions of a header.
+pub const WIDEST: usize = 320;
+
 // The bytes of a cube of w positions.
 pub fn cube_len(w: usize) -> usize
     ensures { λ r. ⌜ r ≡ cubeLen w ⌝ }

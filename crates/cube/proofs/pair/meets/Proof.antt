@@ -9,9 +9,10 @@ use lib.ListN.{length, drop}
 use borrow.Author.Needs.{needs}
 use Rattle.model.specs.Cube.{shares}
 use Rattle.format.specs.Bytes.{codes}
+use Rattle.format.proofs.Coding.{length-codes}
 use Rattle.cube.proofs.Loops.{gathered, ended}
 use Rattle.cube.proofs.Octets.{gaps}
-use Rattle.cube.proofs.Codes.{length-codes, shares-apart}
+use Rattle.cube.proofs.Codes.{shares-apart}
 use Rattle.cube.proofs.Steps.{shares-step}
 use Rattle.cube.proofs.pair.meets.Statement.{statement}
 use Rattle.cube.proofs.pair.meets.Tie as tie

@@ -1,0 +1,178 @@
+-- The outcome of each call on two lent cubes, from what the calls on their bytes say. Assumes nothing.
+use mathlib.Core.Path.{_≡_, refl, sym, ap, ap₂, _∙_}
+use mathlib.Core.List.{List, []}
+use mathlib.Core.Bool.{true, false, not, _||_, or-true}
+use Prim.Native.Nat.{ℕ, _≤_, _<_}
+use native.Mathlib.Omega.{arith}
+use lib.ListN.{length}
+use denote.Ref.{RefT, now, ptr}
+use Rattle.model.specs.Cube.{meet, shares, within}
+use Rattle.answer.specs.Answer.{said, wrote}
+use Rattle.format.specs.Rows.{Rows, last, row, so}
+use Rattle.format.specs.Bytes.{Bytes, codes, readCube, writeCube}
+use Rattle.format.specs.Told.{Told, silent, yesOr, writing}
+use Rattle.format.specs.Calls.{cube-meet, cube-in, Which, first, second, neither, wider, wider-number}
+use Rattle.format.proofs.Reached.{reached}
+use Rattle.cube.specs.Pair.{liesIn, andBytes}
+use Rattle.cube.specs.Call.{pairFault, WiderIs}
+use Rattle.cube.proofs.Codes.{length-and}
+use Rattle.cube.proofs.Reading.{lent-clean, read-shares, read-lies, read-meet}
+use Rattle.cube.proofs.Refusals.{pair-off, pair-on, pair-clean}
+
+abbrev pub wroteBytes : ℕ → List ℕ → Told
+wroteBytes n bs = record { answer = wrote n; bytes = bs }
+
+module _ (w : ℕ) (a b : List ℕ) where
+  abbrev inRows : Rows Told
+  inRows = yesOr (within (readCube w a) (readCube w b))
+
+  abbrev numberRows : Rows Told
+  numberRows = yesOr (within (readCube w b) (readCube w a) || within (readCube w a) (readCube w b))
+
+  abbrev meetRows : ℕ → Rows Told
+  meetRows room =
+      row (so (not (shares (readCube w a) (readCube w b)))) (silent (said 2))
+      (writing (writeCube (meet (readCube w a) (readCube w b))) room)
+
+  abbrev widerRows : Rows Which
+  widerRows =
+      row (so (within (readCube w b) (readCube w a))) first
+      (row (so (within (readCube w a) (readCube w b))) second
+      (last neither))
+
+  -- refused
+  module _ (h : pairFault w a b .number ≡ 0 → ⊥) where
+    pub in-refused : silent (pairFault w a b) ≡ cube-in w a b
+    unfolding cube-in
+    in-refused = pair-off w a b silent inRows h
+
+    pub number-refused : silent (pairFault w a b) ≡ wider-number w a b
+    unfolding wider-number
+    number-refused = pair-off w a b silent numberRows h
+
+    pub meet-refused : (room : ℕ) → silent (pairFault w a b) ≡ cube-meet w a b room
+    unfolding cube-meet
+    meet-refused room = pair-off w a b silent (meetRows room) h
+
+    pub wider-refused : neither ≡ wider w a b
+    unfolding wider
+    wider-refused = pair-off w a b (λ _. neither) widerRows h
+
+  -- accepted
+  module _ (h : pairFault w a b .number ≡ 0) where
+    pub one-size : length a ≡ length b
+    one-size =
+        let p = pair-clean w a b h in
+        lent-clean w a (p .0) .0 ∙ sym (lent-clean w b (p .1) .0)
+
+    lies : liesIn a b ≡ within (readCube w a) (readCube w b)
+    lies =
+        let p = pair-clean w a b h in
+        let k = lent-clean w a (p .0) in
+        let m = lent-clean w b (p .1) in
+        read-lies w a b (k .0) (m .0) (k .1) (m .1)
+
+    holds : liesIn b a ≡ within (readCube w b) (readCube w a)
+    holds =
+        let p = pair-clean w a b h in
+        let k = lent-clean w a (p .0) in
+        let m = lent-clean w b (p .1) in
+        read-lies w b a (m .0) (k .0) (m .1) (k .1)
+
+    pub in-yes : liesIn a b ≡ true → silent (said 1) ≡ cube-in w a b
+    unfolding cube-in
+    in-yes e = reached 0 inRows (sym lies ∙ e) ∙ pair-on w a b silent inRows h
+
+    pub in-no : liesIn a b ≡ false → silent (said 2) ≡ cube-in w a b
+    unfolding cube-in
+    in-no e = reached 1 inRows (sym lies ∙ e, tt) ∙ pair-on w a b silent inRows h
+
+    pub number-first : liesIn b a ≡ true → silent (said 1) ≡ wider-number w a b
+    unfolding wider-number
+    number-first e = reached 0 numberRows (rw (sym holds ∙ e)) ∙ pair-on w a b silent numberRows h
+
+    pub number-second : liesIn a b ≡ true → silent (said 1) ≡ wider-number w a b
+    unfolding wider-number
+    number-second e = reached 0 numberRows (rw (sym lies ∙ e) (or-true (within (readCube w b) (readCube w a)))) ∙ pair-on w a b silent numberRows h
+
+    pub number-neither : liesIn b a ≡ false → liesIn a b ≡ false → silent (said 2) ≡ wider-number w a b
+    unfolding wider-number
+    number-neither d e = reached 1 numberRows (rw (sym holds ∙ d, sym lies ∙ e), tt) ∙ pair-on w a b silent numberRows h
+
+    pub wider-first : liesIn b a ≡ true → first ≡ wider w a b
+    unfolding wider
+    wider-first e = reached 0 widerRows (sym holds ∙ e) ∙ pair-on w a b (λ _. neither) widerRows h
+
+    pub wider-second : liesIn b a ≡ false → liesIn a b ≡ true → second ≡ wider w a b
+    unfolding wider
+    wider-second d e = reached 1 widerRows (sym holds ∙ d, sym lies ∙ e) ∙ pair-on w a b (λ _. neither) widerRows h
+
+    pub wider-neither : liesIn b a ≡ false → liesIn a b ≡ false → neither ≡ wider w a b
+    unfolding wider
+    wider-neither d e = reached 2 widerRows (sym holds ∙ d, (sym lies ∙ e, tt)) ∙ pair-on w a b (λ _. neither) widerRows h
+
+    meeting : shares (codes a) (codes b) ≡ shares (readCube w a) (readCube w b)
+    meeting =
+        let p = pair-clean w a b h in
+        let k = lent-clean w a (p .0) in
+        let m = lent-clean w b (p .1) in
+        read-shares w a b (k .0) (m .0) (k .1) (m .1)
+
+    pub meet-apart : (room : ℕ) → shares (codes a) (codes b) ≡ false → silent (said 2) ≡ cube-meet w a b room
+    unfolding cube-meet
+    meet-apart room e = reached 0 (meetRows room) (ap not (sym meeting ∙ e)) ∙ pair-on w a b silent (meetRows room) h
+
+    module _ (bytes : Bytes a) (e : shares (codes a) (codes b) ≡ true) where
+      written : writeCube (meet (readCube w a) (readCube w b)) ≡ andBytes a b
+      written =
+          let p = pair-clean w a b h in
+          let k = lent-clean w a (p .0) in
+          let m = lent-clean w b (p .1) in
+          read-meet w a b (k .0) (m .0) (k .1) (m .1) bytes
+
+      size : length (writeCube (meet (readCube w a) (readCube w b))) ≡ length a
+      size = ap length written ∙ length-and a b one-size
+
+      pub meet-short : (room : ℕ) → room < length a → silent (said 22) ≡ cube-meet w a b room
+      unfolding cube-meet
+      meet-short room l =
+          let s = size in
+          reached 1 (meetRows room) (ap not (sym meeting ∙ e), omega arith) ∙ pair-on w a b silent (meetRows room) h
+
+      pub meet-written : (room : ℕ) → length a ≤ room → wroteBytes (length a) (andBytes a b) ≡ cube-meet w a b room
+      unfolding cube-meet
+      meet-written room l =
+          let s = size in
+          ap₂ wroteBytes (sym size) (sym written)
+          ∙ reached 2 (meetRows room) (ap not (sym meeting ∙ e), (omega arith, tt)) ∙ pair-on w a b silent (meetRows room) h
+
+-- ---- the wider of two references
+abbrev rank : Which → ℕ
+rank first = 0
+rank second = 1
+rank neither = 2
+
+apart : (p q : Which) → (rank p ≡ rank q → ⊥) → p ≡ q → ⊥
+apart p q n e = n (ap rank e)
+
+module _ (w : ℕ) (a b : RefT (List ℕ)) where
+  pub is-first : first ≡ wider w (now a) (now b) → WiderIs w a b a
+  is-first e = record {
+    first = λ _. refl;
+    second = λ f. absurd (apart first second (λ n. omega arith) (e ∙ f));
+    neither = λ f. absurd (apart first neither (λ n. omega arith) (e ∙ f));
+  }
+
+  pub is-second : second ≡ wider w (now a) (now b) → WiderIs w a b b
+  is-second e = record {
+    first = λ f. absurd (apart second first (λ n. omega arith) (e ∙ f));
+    second = λ _. refl;
+    neither = λ f. absurd (apart second neither (λ n. omega arith) (e ∙ f));
+  }
+
+  pub is-neither : (r : RefT (List ℕ)) → now r ≡ [] → ptr r ≡ ptr a → neither ≡ wider w (now a) (now b) → WiderIs w a b r
+  is-neither r n p e = record {
+    first = λ f. absurd (apart neither first (λ n. omega arith) (e ∙ f));
+    second = λ f. absurd (apart neither second (λ n. omega arith) (e ∙ f));
+    neither = λ _. (n, p);
+  }
