@@ -1,6 +1,8 @@
 -- Cubes as bytes: what an accepted cube's bytes read as, and that reading and writing undo one another. Assumes nothing.
 --   length-codes, code-at    how many codes bytes have, and which one stands at a position, in document 01's words
 --   fault-solid, fault-free  what an accepted cube is: no code 0 at a position, every unused place 3
+--   lent-length, lent-cube   what an accepted lent cube is: of its length, and an accepted cube
+--   lent-fault               bytes of a cube's length are lent with the cube's fault
 --   read-length, read-padded the cube read has its w positions, and the bytes hold it with the unused places behind it
 --   write-padded, read-write the bytes written hold the cube, and it is read again
 --   write-accepted           the bytes written of a cube without `none` are accepted
@@ -17,7 +19,8 @@ use lib.Seq.{length-take-le, take-at, drop-at}
 use Rattle.model.specs.Cube.{Code, none, v0, v1, free, Cube, solid}
 use Rattle.model.proofs.Bools.{and-left, and-right}
 use Rattle.model.proofs.Padding.{pad}
-use Rattle.format.specs.Bytes.{Bytes, cubeLen, codeOf, numberOf, codes, readCube, cubeBytes, writeCube, isFree, allFree, cubeRows, cubeFault}
+use Rattle.format.specs.Rows.{last, row, isnt, outcome}
+use Rattle.format.specs.Bytes.{Bytes, cubeLen, codeOf, numberOf, codes, readCube, cubeBytes, writeCube, isFree, allFree, cubeRows, cubeFault, lentRows, lentFault}
 use Rattle.format.proofs.Reached.{reached, clean}
 
 -- positions
@@ -48,6 +51,19 @@ module _ (w : ℕ) (bs : List ℕ) (e : cubeFault w bs ≡ 0) where
 
   pub fault-free : allFree (drop w (codes bs)) ≡ true
   fault-free = not-false (allFree (drop w (codes bs))) (no-fault .1 .0)
+
+-- a lent cube
+module _ (w : ℕ) (bs : List ℕ) where
+  pub lent-length : lentFault w bs ≡ 0 → length bs ≡ cubeLen w
+  unfolding lentFault
+  lent-length e = clean 0 (lentRows w bs) (omega arith) e .0
+
+  pub lent-fault : length bs ≡ cubeLen w → lentFault w bs ≡ cubeFault w bs
+  unfolding lentFault cubeFault outcome
+  lent-fault l = sym (reached 1 (row (isnt (length bs) (cubeLen w)) 12 (last (cubeFault w bs))) (l, tt))
+
+  pub lent-cube : lentFault w bs ≡ 0 → cubeFault w bs ≡ 0
+  lent-cube e = sym (lent-fault (lent-length e)) ∙ e
 
 free-code : (x : Code) → isFree x ≡ true → x ≡ free
 free-code none e = cc
@@ -150,14 +166,14 @@ all-free : (n : ℕ) → allFree (replicate n free) ≡ true
 all-free zero = refl
 all-free (suc n) = all-free n
 
+write-free : (c : Cube) → allFree (drop (length c) (codes (writeCube c))) ≡ true
+write-free c =
+    let spare = 4 * cubeLen (length c) - length c in
+    rw (write-padded (cubeLen (length c)) c (omega arith), drop-at c (replicate spare free) (length c) refl) (all-free spare)
+
 pub write-accepted : (c : Cube) → solid c ≡ true → cubeFault (length c) (writeCube c) ≡ 0
 unfolding cubeFault
-write-accepted c e =
-    let spare = 4 * cubeLen (length c) - length c in
-    let p : not (solid (readCube (length c) (writeCube c))) ≡ false = rw (read-write c, e) in
-    let q : not (allFree (drop (length c) (codes (writeCube c)))) ≡ false =
-    rw (write-padded (cubeLen (length c)) c (omega arith), drop-at c (replicate spare free) (length c) refl, all-free spare) in
-    sym (reached 2 (cubeRows (length c) (writeCube c)) (p, (q, tt)))
+write-accepted c e = sym (reached 2 (cubeRows (length c) (writeCube c)) (rw (read-write c, e), (rw (write-free c), tt)))
 
 -- bytes are told by their codes
 digit : (x y : ℕ) → x < 4 → y < 4 → codeOf x ≡ codeOf y → x ≡ y

@@ -8,6 +8,7 @@
 --   File, file-of            the facts about an accepted file, and that a file with no fault has them
 --   file-good, file-cuts, file-count    the region read of an accepted file is Good, no difference has too many cuts, nor are they too many
 --   write-file-read          an accepted file is written again with the same bytes
+--   file-bytes               the file written is bytes
 --   width-read, file-accepted, region-read    the file written is accepted, and its width and region are read again
 use Prim.Native.Nat.{ℕ, zero, suc, _+_, _-_, _≤_, _<_}
 use native.Mathlib.Omega.{arith}
@@ -27,7 +28,7 @@ use Rattle.format.specs.Records.{u16Bytes, countAt, lengthAt, kindAt, ne
 use Rattle.format.specs.Files.{Reading, refused, whole, faultNumber, faultOffset, offsets, before, differencesFrom, readFile, regionOf, regionIn}
 use Rattle.format.specs.Told.{anyLong}
 use Rattle.format.proofs.Reached.{reached, clean}
-use Rattle.format.proofs.Recording.{u16-same, Record, record-of, drop-past, length-written, next-read, difference-read, record-accepted, cuts-count, good-read, bytes-read}
+use Rattle.format.proofs.Recording.{u16-same, Record, record-of, drop-past, length-written, bytes-written, bytes-append, next-read, difference-read, record-accepted, cuts-count, good-read, bytes-read}
 
 -- one turn
 module _ (w : ℕ) (s : List ℕ) (at n : ℕ) where
@@ -171,12 +172,12 @@ module _ {s : List ℕ} (f : File s) where
   pub file-count : length (regionIn s) ≤ mostDifferences
   file-count = simp length-map (omega (arith, few-listed (f .list) (omega arith)))
 
+  front : Bytes s → s ≡ u16Bytes (lengthAt s 0) ++ (u16Bytes (kindAt s 0) ++ (u16Bytes (widthOf s) ++ drop 6 s))
+  front b = u16-same s 0 b (omega arith) ∙ rw (u16-same s 2 b (omega arith), u16-same s 4 b (omega arith))
+
   pub write-file-read : Bytes s → fileBytes (widthOf s) (regionIn s) ≡ s
   unfolding fileBytes
-  write-file-read b =
-      let e : s ≡ u16Bytes (lengthAt s 0) ++ (u16Bytes (kindAt s 0) ++ (u16Bytes (widthOf s) ++ drop 6 s)) =
-      u16-same s 0 b (omega arith) ∙ rw (u16-same s 2 b (omega arith), u16-same s 4 b (omega arith)) in
-      rw (all-bytes b (f .list)) (sym (rw (f .width .size, f .width .kind) at e))
+  write-file-read b = rw (all-bytes b (f .list)) (sym (rw (f .width .size, f .width .kind) at (front b)))
 
 -- records, written
 module _ (w : ℕ) (s : List ℕ) (narrow : w ≤ widest) where
@@ -198,7 +199,18 @@ module _ (w : ℕ) (s : List ℕ) (narrow : w ≤ widest) where
       let this = difference-read w d s (differencesBytes w r) at (g .0) cuts narrow e in
       (at ∷ rest .0, turn-record w s at n t (omega arith) fault ∙ ap (before at) (rest .1), λ i. this i ∷ rest .2 i)
 
+differences-bytes : (w : ℕ) (r : Region) → anyLong r ≡ false → Bytes (differencesBytes w r)
+differences-bytes w [] long = tt
+differences-bytes w (d ∷ r) long =
+    let parts = or-none (ltb mostCuts (length (d .cuts))) (anyLong r) long in
+    let this = bytes-written w d (ltb-false mostCuts (length (d .cuts)) (parts .0)) in
+    bytes-append (differenceBytes w d) (differencesBytes w r) this (differences-bytes w r (parts .1))
+
 -- a file, written
+pub file-bytes : (w : ℕ) (r : Region) → anyLong r ≡ false → Bytes (fileBytes w r)
+unfolding fileBytes
+file-bytes w r long = (omega arith, (omega arith, (omega arith, (omega arith, (omega arith, (omega arith, differences-bytes w r long))))))
+
 module _ (w : ℕ) (r : Region) (g : All (Good w) r) (cuts : anyLong r ≡ false) (few : length r ≤ mostDifferences)
     (some : 1 ≤ w) (narrow : w ≤ widest) where
   pub width-read : widthOf (fileBytes w r) ≡ w

@@ -79,9 +79,7 @@ module _ (h : Header) where
 
   octet-lt : octet h < 256
   octet-lt =
-      let high : weigh 128 (bit 0) + weigh 64 (bit 1) + weigh 32 (bit 2) + weigh 16 (bit 3) ≤ 240 =
-      omega (arith, weigh-le 128 (bit 0), weigh-le 64 (bit 1), weigh-le 32 (bit 2), weigh-le 16 (bit 3)) in
-      omega (arith, weigh-le 8 (bit 4), weigh-le 4 (bit 5), weigh-le 2 (bit 6), le 7)
+      omega (arith, weigh-le 128 (bit 0), weigh-le 64 (bit 1), weigh-le 32 (bit 2), weigh-le 16 (bit 3), weigh-le 8 (bit 4), weigh-le 4 (bit 5), weigh-le 2 (bit 6), le 7)
 
 -- m bits: those of h, and zeros behind them
 filled : ℕ → Header → Header

@@ -4,4 +4,5 @@ pub mod Coding
 pub mod Heading
 pub mod Recording
 pub mod Filing
+pub mod Rewriting
 pub mod Figures

@@ -1,7 +1,8 @@
 -- Kind 2 records: what an accepted one holds, and that reading and writing undo one another. Assumes nothing.
 --   drop-past                what stands behind a front that stands at an offset
 --   u16-same                 a number in two bytes is written again with the same bytes
---   length-written           how long the record of a difference is
+--   bytes-append             bytes behind bytes are bytes
+--   length-written, bytes-written    how long the record of a difference is, and that it is bytes
 --   length-read, kind-read, count-read, next-read, difference-read, record-accepted
 --                            of a record that was written and stands at an offset: its parts, its end, its difference, and that it is accepted
 --   alone-difference, alone-accepted    the same of a record that was written and lent by itself
@@ -26,7 +27,7 @@ use Rattle.format.specs.Limits.{widest, mostCuts, mostDifferences, diffe
 use Rattle.format.specs.Bytes.{Bytes, cubeLen, readCube, writeCube, cubeFault}
 use Rattle.format.specs.Records.{u16At, lengthAt, kindAt, countAt, nextAt, differenceLen, cubeAt, cubesAt, differenceAt, cubesFault, bytesAfter, differenceRows, differenceFault, u16Bytes, cubesBytes, differenceBytes}
 use Rattle.format.proofs.Reached.{reached, clean}
-use Rattle.format.proofs.Coding.{fault-solid, read-length, read-write, write-length, write-accepted, write-read}
+use Rattle.format.proofs.Coding.{fault-solid, read-length, read-write, write-length, write-bytes, write-accepted, write-read}
 
 -- what stands at an offset
 pub drop-past : (s front rest : List ℕ) (at n : ℕ) → drop at s ≡ front ++ rest → length front ≡ n → drop (at + n) s ≡ rest
@@ -56,6 +57,10 @@ bytes-drop zero bs h = h
 bytes-drop (suc n) [] h = tt
 bytes-drop (suc n) (b ∷ bs) h = bytes-drop n bs (h .1)
 
+pub bytes-append : (a b : List ℕ) → Bytes a → Bytes b → Bytes (a ++ b)
+bytes-append [] b h k = k
+bytes-append (x ∷ a) b h k = (h .0, bytes-append a b (h .1) k)
+
 byte-at : (bs : List ℕ) (i : ℕ) → Bytes bs → getD bs i 0 < 256
 byte-at [] i h = omega arith
 byte-at (b ∷ bs) zero h = h .0
@@ -80,6 +85,10 @@ cubes-length : (w : ℕ) (cs : List Cube) → All (Sized w) cs → length (cubes
 cubes-length w [] g = omega arith
 cubes-length w (c ∷ cs) g = simp length-append (omega (arith, cubes-length w cs (g .1), writes-long w c (g .0)))
 
+cubes-bytes : (cs : List Cube) → Bytes (cubesBytes cs)
+cubes-bytes [] = tt
+cubes-bytes (c ∷ cs) = bytes-append (writeCube c) (cubesBytes cs) (write-bytes (cubeLen (length c)) c) (cubes-bytes cs)
+
 module _ (w : ℕ) (s : List ℕ) where
   cube-written : (c : Cube) (rest : List ℕ) (at : ℕ) → Sized w c → drop at s ≡ writeCube c ++ rest → take (cubeLen w) (drop at s) ≡ writeCube c
   cube-written c rest at g e = rw e (take-at (writeCube c) rest (cubeLen w) (writes-long w c g))
@@ -100,6 +109,10 @@ module _ (w : ℕ) (s : List ℕ) where
 pub length-written : (w : ℕ) (d : Difference) → Good w d → length (differenceBytes w d) ≡ 2 + differenceLen (length (d .cuts)) w
 unfolding differenceBytes
 length-written w d g = omega (arith, cubes-length w (d .base ∷ d .cuts) (g .base, g .cuts))
+
+pub bytes-written : (w : ℕ) (d : Difference) → length (d .cuts) ≤ mostCuts → Bytes (differenceBytes w d)
+unfolding differenceBytes
+bytes-written w d few = (omega arith, (omega arith, (omega arith, (omega arith, (omega arith, cubes-bytes (d .base ∷ d .cuts))))))
 
 module _ (w : ℕ) (d : Difference) (s post : List ℕ) (at : ℕ) (g : Good w d) (few : length (d .cuts) ≤ mostCuts) (narrow : w ≤ widest)
     (e : drop at s ≡ differenceBytes w d ++ post) where
