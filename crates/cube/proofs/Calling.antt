@@ -146,7 +146,7 @@ module _ (w : ℕ) (a b : List ℕ) where
           ap₂ wroteBytes (sym size) (sym written)
           ∙ reached 2 (meetRows room) (ap not (sym meeting ∙ e), (omega arith, tt)) ∙ pair-on w a b silent (meetRows room) h
 
--- ---- the wider of two references
+-- the wider of two references
 abbrev rank : Which → ℕ
 rank first = 0
 rank second = 1

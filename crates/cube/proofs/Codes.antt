@@ -1,5 +1,5 @@
 -- The codes of bytes: as many to each byte, one byte after the other, and `&` on bytes is the meet of the codes. Assumes nothing.
-use mathlib.Core.Path.{_≡_, refl, sym, ap, _∙_}
+use mathlib.Core.Path.{_≡_, refl, sym, ap, ap₂, _∙_}
 use mathlib.Core.List.{List, [], _∷_, _++_}
 use mathlib.Core.Bool.{Bool, true, false, _&&_, and-assoc, and-false, true≢false}
 use Prim.Native.Nat.{ℕ, zero, suc, _/_, _%_, _^_, _<_}
@@ -9,7 +9,7 @@ use lib.Bits.{bitAnd, and-shr, and-mod, and-le-l}
 use lib.Dec.{lit<, eqb}
 use lib.ListN.{length}
 use borrow.Author.Tests.{eq-eqb, ne-eqb}
-use Rattle.model.specs.Cube.{none, v0, v1, free, Cube, meetCode, meet, coded, solid, shares, same, within}
+use Rattle.model.specs.Cube.{Code, none, v0, v1, free, Cube, meetCode, meet, coded, solid, shares, same, within}
 use Rattle.model.proofs.Cubes.{same-is, same-self}
 use Rattle.format.specs.Bytes.{codeOf, codes, quad, isFree, allFree}
 use Rattle.cube.specs.Pair.{andBytes}
@@ -29,14 +29,14 @@ free-append [] b = refl
 free-append (x ∷ a) b = ap (λ (t : Bool). isFree x && t) (free-append a b) ∙ sym (and-assoc (isFree x) (allFree a) (allFree b))
 
 -- a number below 4 is one of four
-pub below4 : (P : ℕ → Type 0) → P 0 → P 1 → P 2 → P 3 → (n : ℕ) → n < 4 → P n
+below4 : (P : ℕ → Type 0) → P 0 → P 1 → P 2 → P 3 → (n : ℕ) → n < 4 → P n
 below4 P p0 p1 p2 p3 zero h = p0
 below4 P p0 p1 p2 p3 (suc zero) h = p1
 below4 P p0 p1 p2 p3 (suc (suc zero)) h = p2
 below4 P p0 p1 p2 p3 (suc (suc (suc zero))) h = p3
 below4 P p0 p1 p2 p3 (suc (suc (suc (suc n)))) h = absurd (omega arith)
 
--- ---- the meet
+-- the meet
 four-and : (m n : ℕ) → m < 4 → n < 4 → codeOf (bitAnd m n) ≡ meetCode (codeOf m) (codeOf n)
 four-and m n hm hn =
     below4 (λ (k : ℕ). codeOf (bitAnd k n) ≡ meetCode (codeOf k) (codeOf n))
@@ -78,7 +78,17 @@ shares-apart (x ∷ a) [] n = refl
 shares-apart (x ∷ a) (y ∷ b) n =
     ap (λ (t : Bool). coded (meetCode x y) && t) (shares-apart a b (λ e. n (ap suc e))) ∙ and-false (coded (meetCode x y))
 
--- ---- lying within
+code-self : (x : Code) → meetCode x x ≡ x
+code-self none = refl
+code-self v0 = refl
+code-self v1 = refl
+code-self free = refl
+
+pub shares-self : (c : Cube) → shares c c ≡ solid c
+shares-self [] = refl
+shares-self (x ∷ c) = ap₂ (λ (s t : Bool). s && t) (ap coded (code-self x)) (shares-self c)
+
+-- lying within
 -- two bytes have the same codes exactly when they are equal
 same-byte : (z x : ℕ) → z < 256 → x < 256 → same (codes (z ∷ [])) (codes (x ∷ [])) ≡ eqb z x
 same-byte z x hz hx = go (same (codes (z ∷ [])) (codes (x ∷ []))) refl

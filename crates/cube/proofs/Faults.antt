@@ -35,11 +35,15 @@ byte-fault q b h k =
     eqb→eq (outcome (byteRows b (fill q))) (cubeFault q (b ∷ [])) (below2 4 256 (λ j x. eqb (outcome (byteRows x (fill j))) (cubeFault j (x ∷ []))) tt q b h k)
 
 -- no byte past the positions
-pub short-zero : (w : ℕ) (c : List ℕ) → length c ≤ w / 4 → (t : Bool) → t ≡ not (solid (codes c)) → cond t 13 0 ≡ cubeFault w c
+pub short-fault : (w : ℕ) (c : List ℕ) → length c ≤ w / 4 → (t : Bool) → solid (codes c) ≡ t → cond t 0 13 ≡ cubeFault w c
 unfolding outcome passes readCube cubeFault
-short-zero w c h t e =
+short-fault w c h t e =
     let l = length-codes c in
-    rw (e, take-all w (codes c) (omega arith), drop-of-length-le (codes c) {i = w} (omega arith))
+    rw (take-all w (codes c) (omega arith), drop-of-length-le (codes c) {i = w} (omega arith), e) (go t)
+  where
+    go : (t : Bool) → _≡_ {A = ℕ} (cond t 0 13) (cond (not t) 13 0)
+    go true = refl
+    go false = refl
 
 -- the byte after the positions that are by fours
 abbrev pub partRows : ℕ → List ℕ → Rows ℕ

@@ -8,6 +8,7 @@ pub mod Parts
 pub mod Faults
 pub mod Headers
 pub mod Spelling
+pub mod Member
 pub mod Reading
 pub mod Refusals
 pub mod Calling

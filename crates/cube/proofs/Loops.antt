@@ -1,5 +1,5 @@
--- Loops over bytes that keep whether all was right so far, and look at every place. The invariant: all was right so far and what is left is right, exactly
--- when the whole is. Assumes nothing.
+-- Loops over bytes that gather, by OR in one number, what is wrong at each place. The invariant: the number is 0 and what is left is right, exactly when the
+-- whole is right. Assumes nothing.
 use mathlib.Core.Path.{_≡_, refl, sym, ap, _∙_}
 use mathlib.Core.List.{List, [], _∷_}
 use mathlib.Core.Bool.{Bool, true, false, _&&_, and-assoc, and-true}
@@ -26,25 +26,18 @@ xor-zero x z = go (eqb z x) refl
     go true e = rw (eqb-true z x e) (eq-eqb (bitXor x x) 0 (xor-self x))
     go false e = ne-eqb (bitXor x z) 0 (λ q. eqb-false z x e (omega (arith, xor-add-and x z, and-le-l x z, and-le-r x z)))
 
--- P is what is asked of two lists of bytes (or of one, lent twice), and f what it asks of their first bytes
+-- P is what is asked of two lists of bytes (or of one, lent twice), and g the number that is 0 where what it asks of their first bytes holds
 module _ (P : List ℕ → List ℕ → Bool) where
-  pub turn : (f : ℕ → ℕ → Bool) → ((x y : ℕ) (a b : List ℕ) → x < 256 → P (x ∷ a) (y ∷ b) ≡ f x y && P a b)
-      → (a b : List ℕ) (i : ℕ) → i < length a → i < length b → getD a i 0 < 256
-      → (was : Bool) → was && P (drop i a) (drop i b) ≡ P a b
-      → (was && f (getD a i 0) (getD b i 0)) && P (drop (i + 1) a) (drop (i + 1) b) ≡ P a b
-  turn f step a b i h k byte was inv =
-      let here : P (drop i a) (drop i b) ≡ f (getD a i 0) (getD b i 0) && P (drop (i + 1) a) (drop (i + 1) b) =
-      rw (add-one, drop-cons a i 0, drop-cons b i 0) (step (getD a i 0) (getD b i 0) (drop (suc i) a) (drop (suc i) b) byte) in
-      and-assoc was (f (getD a i 0) (getD b i 0)) (P (drop (i + 1) a) (drop (i + 1) b)) ∙ ap (λ (t : Bool). was && t) (sym here) ∙ inv
-
-  -- g is the number that is 0 where a place is right
   pub gathered : (g : ℕ → ℕ → ℕ) → ((x y : ℕ) (a b : List ℕ) → x < 256 → P (x ∷ a) (y ∷ b) ≡ eqb (g x y) 0 && P a b)
       → (a b : List ℕ) (i : ℕ) → i < length a → i < length b → getD a i 0 < 256
       → (bad : ℕ) → eqb bad 0 && P (drop i a) (drop i b) ≡ P a b
       → eqb (bitOr bad (g (getD a i 0) (getD b i 0))) 0 && P (drop (i + 1) a) (drop (i + 1) b) ≡ P a b
   gathered g step a b i h k byte bad inv =
-      ap (λ (t : Bool). t && P (drop (i + 1) a) (drop (i + 1) b)) (or-zero bad (g (getD a i 0) (getD b i 0)))
-      ∙ turn (λ x y. eqb (g x y) 0) step a b i h k byte (eqb bad 0) inv
+      let n = g (getD a i 0) (getD b i 0) in
+      let left = P (drop (i + 1) a) (drop (i + 1) b) in
+      let here : P (drop i a) (drop i b) ≡ eqb n 0 && left =
+      rw (add-one, drop-cons a i 0, drop-cons b i 0) (step (getD a i 0) (getD b i 0) (drop (suc i) a) (drop (suc i) b) byte) in
+      ap (λ (t : Bool). t && left) (or-zero bad n) ∙ and-assoc (eqb bad 0) (eqb n 0) left ∙ ap (λ (t : Bool). eqb bad 0 && t) (sym here) ∙ inv
 
   pub ended : P [] [] ≡ true → (a b : List ℕ) (i : ℕ) → length a ≤ i → length b ≤ i → (was : Bool) → was && P (drop i a) (drop i b) ≡ P a b → was ≡ P a b
   ended e a b i h k was inv =

@@ -24,7 +24,7 @@ pub lies-apart : (a b : List ℕ) → (length a ≡ length b → ⊥) → false 
 unfolding liesIn
 lies-apart a b n = rw (ne-eqb (length a) (length b) n)
 
--- ---- the meet written
+-- the meet written
 pub into-over : (a b out : List ℕ) → length a ≡ length b → length a ≤ length out → andInto a b out ≡ over out (andBytes a b)
 into-over [] b out l h = refl
 into-over (x ∷ a) [] out l h = absurd (omega arith)

@@ -38,7 +38,7 @@ within-holds (false ∷ h) [] = refl
 within-holds (true ∷ h) (x ∷ c) = ap₂ (λ (s t : Bool). s && t) (bit-within true x) (within-holds h c)
 within-holds (false ∷ h) (x ∷ c) = ap₂ (λ (s t : Bool). s && t) (bit-within false x) (within-holds h c)
 
--- ---- bytes
+-- bytes
 pub map-append : {A B : Type 0} (f : A → B) (a b : List A) → map f (a ++ b) ≡ map f a ++ map f b
 map-append f [] b = refl
 map-append {B = B} f (x ∷ a) b = ap (λ (r : List B). f x ∷ r) (map-append f a b)
@@ -70,7 +70,7 @@ take-copies zero m h = refl
 take-copies (suc n) zero h = absurd (omega arith)
 take-copies (suc n) (suc m) h = ap (λ (c : Cube). v0 ∷ c) (take-copies n m (omega arith))
 
--- ---- the loop: the bytes of the first i header bytes are spelled, and every other bit is zero
+-- the loop: the bytes of the first i header bytes are spelled, and every other bit is zero
 abbrev pub Spelt : List ℕ → ℕ → List ℕ → Type 0
 Spelt h i c = (done : List ℕ) × (length done ≡ 2 * i) × (c ≡ done ++ replicate (80 - 2 * i) 0x55) × (codes done ≡ map bitCode (bits (take i h)))
 
@@ -104,7 +104,7 @@ spelt-turn h c i x y k l byte ex ey s =
       codes-append (s .0) (x ∷ y ∷ []) ∙ ap₂ (λ (p q : Cube). p ++ q) (s .3) here ∙ sym upto,
     )
 
--- ---- the end: a header of at most n bytes is spelled whole, of a longer one its first n bytes
+-- the end: a header of at most n bytes is spelled whole, of a longer one its first n bytes
 abbrev spelt : List ℕ → Cube
 spelt h = map bitCode (bits h)
 

@@ -1,27 +1,20 @@
 -- What is asked of the first bytes of two lists, for each loop over bytes, and that what is left is asked of the others. Assumes nothing.
 use mathlib.Core.Path.{_≡_, refl, sym, ap, _∙_}
 use mathlib.Core.List.{List, [], _∷_}
-use mathlib.Core.Bool.{Bool, true, false, not, _&&_, _||_, or-assoc, Bool·not-not}
+use mathlib.Core.Bool.{Bool, true, false, not, _&&_, _||_, or-assoc}
 use Prim.Native.Nat.{ℕ, _<_}
 use native.Mathlib.Omega.{arith}
 use lib.Bits.{bitAnd, bitXor, and-le-l}
 use lib.Dec.{eqb}
-use Rattle.model.specs.Cube.{solid, shares, within}
+use Rattle.model.specs.Cube.{shares, within}
 use Rattle.format.specs.Bytes.{bits, anyBit, codes, allFree}
 use Rattle.cube.proofs.Octets.{gaps, gaps-solid, full-free, zero-clear}
-use Rattle.cube.proofs.Codes.{solid-append, free-append, shares-byte, within-byte}
+use Rattle.cube.proofs.Codes.{free-append, shares-byte, within-byte}
 use Rattle.cube.proofs.Loops.{xor-zero}
 
 not-or : (a b : Bool) → not (a || b) ≡ not a && not b
 not-or true b = refl
 not-or false b = refl
-
--- what is gathered in a truth: `zero` was so far, r is here
-pub zero-turn : (zero r s : Bool) → r ≡ not s → not (zero || r) ≡ not zero && s
-zero-turn zero r s e = not-or zero r ∙ ap (λ (t : Bool). not zero && not t) e ∙ ap (λ (t : Bool). not zero && t) (Bool·not-not s)
-
-pub solid-step : (x : ℕ) (a : List ℕ) → solid (codes (x ∷ a)) ≡ solid (codes (x ∷ [])) && solid (codes a)
-solid-step x a = solid-append (codes (x ∷ [])) (codes a)
 
 pub free-step : (x : ℕ) (a : List ℕ) → x < 256 → allFree (codes (x ∷ a)) ≡ eqb (bitXor x 255) 0 && allFree (codes a)
 free-step x a h = free-append (codes (x ∷ [])) (codes a) ∙ ap (λ (t : Bool). t && allFree (codes a)) (sym (full-free x h))

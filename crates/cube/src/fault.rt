@@ -1,25 +1,11 @@
 // What is wrong with the bytes of a cube.
 ghost use mathlib.Core.Path.{_≡_};
 ghost use mathlib.Core.List.{[], _∷_};
-ghost use mathlib.Core.Bool.{not};
 ghost use Prim.Native.Nat.{_<_};
-ghost use Rattle.model.specs.Cube.{solid};
 ghost use Rattle.format.specs.Bytes.{codes, allFree, cubeFault, lentFault};
+use super::pair::meets;
 use super::size::cube_len;
 use super::table::code_zero;
-
-// Whether a byte holds code 0. Every byte is looked at, with no early exit.
-fn any_zero(c: &[u8]) -> bool
-    ensures { λ r. ⌜ r ≡ not (solid (codes (now (c .entry)))) ⌝ }
-{
-    let mut zero = false;
-    let mut i = 0;
-    while i < c.len() {
-        zero = zero | code_zero(c[i]);
-        i += 1;
-    }
-    zero
-}
 
 // Whether every place of every byte holds code 3.
 fn all_free(c: &[u8]) -> bool
@@ -49,18 +35,20 @@ fn byte_fault(b: u8, w: usize) -> u8
     0
 }
 
-// What is wrong with the cube of w positions in c: 13, 14, or 0. A byte past the positions holds unused places alone.
+// What is wrong with the cube of w positions in c: 13, 14, or 0. A byte past the positions holds unused places alone. Bytes hold code 0 exactly when
+// they share no header with themselves, so `meets` looks at all those that hold positions alone.
 pub fn cube_fault(c: &[u8], w: usize) -> u8
     ensures { λ r. ⌜ r ≡ cubeFault w (now (c .entry)) ⌝ }
 {
     let whole = w / 4;
     if c.len() <= whole {
-        if any_zero(c) {
-            return 13;
+        if meets(c, c) {
+            return 0;
         }
-        return 0;
+        return 13;
     }
-    if any_zero(&c[0..whole]) {
+    let front = &c[0..whole];
+    if !meets(front, front) {
         return 13;
     }
     let fault = byte_fault(c[whole], w % 4);

@@ -4,52 +4,56 @@ use mathlib.Core.List.{List}
 use mathlib.Core.Bool.{Bool, true, false, not}
 use Prim.Native.Nat.{ℕ, suc, _+_, _-_, _/_}
 use lib.ListN.{length, take, drop}
+use borrow.Author.Tests.{not-true, not-false}
 use borrow.Author.Needs.{needs}
-use Rattle.model.specs.Cube.{solid}
+use Rattle.model.specs.Cube.{solid, shares}
 use Rattle.format.specs.Bytes.{codes, allFree}
 use Rattle.format.proofs.Reached.{reached}
+use Rattle.cube.proofs.Codes.{shares-self}
 use Rattle.cube.proofs.Parts.{first-part, last-part}
-use Rattle.cube.proofs.Faults.{short-zero, partRows, cube-parts}
+use Rattle.cube.proofs.Faults.{short-fault, partRows, cube-parts}
 use Rattle.cube.proofs.fault.cube_fault.Statement.{statement}
 use Rattle.cube.proofs.fault.cube_fault.Tie as tie
 
--- what the two calls on parts say of the whole
-zero-front : (c : List ℕ) (k : ℕ) (r t : Bool) → r ≡ not (solid (codes (take (k - 0) c))) → r ≡ t → not (solid (codes (take k c))) ≡ t
-zero-front c k r t e f = ap (λ (l : List ℕ). not (solid (codes l))) (sym (first-part c k)) ∙ sym e ∙ f
+-- what the calls on the whole and on parts of it say
+clear : (c : List ℕ) (r t : Bool) → r ≡ shares (codes c) (codes c) → r ≡ t → solid (codes c) ≡ t
+clear c r t e f = sym (shares-self (codes c)) ∙ sym e ∙ f
 
-free-rest : (c : List ℕ) (k : ℕ) (r t : Bool) → r ≡ allFree (codes (take (length c - (k + 1)) (drop (k + 1) c))) → r ≡ t
-    → not (allFree (codes (drop (suc k) c))) ≡ not t
-free-rest c k r t e f = ap (λ (l : List ℕ). not (allFree (codes l))) (sym (last-part c k)) ∙ ap not (sym e ∙ f)
+front : (c : List ℕ) (k : ℕ) (r t : Bool) → r ≡ shares (codes (take (k - 0) c)) (codes (take (k - 0) c)) → r ≡ t → not (solid (codes (take k c))) ≡ not t
+front c k r t e f = ap (λ (l : List ℕ). not (solid (codes l))) (sym (first-part c k)) ∙ ap not (clear (take (k - 0) c) r t e f)
 
-any-zero-requires : tie.Need-any-zero-requires
-any-zero-requires c κs = search needs
+rest : (c : List ℕ) (k : ℕ) (r t : Bool) → r ≡ allFree (codes (take (length c - (k + 1)) (drop (k + 1) c))) → r ≡ t → not (allFree (codes (drop (suc k) c))) ≡ not t
+rest c k r t e f = ap (λ (l : List ℕ). not (allFree (codes l))) (sym (last-part c k)) ∙ ap not (sym e ∙ f)
+
+meets-requires : tie.Need-meets-requires
+meets-requires c κs = search needs
 
 returns : tie.Need-returns
 returns c =
     let x = c .before .before .before .before .args in
-    short-zero (x .w) (x .c .now) (c .before .before .if1 .taken) true (sym (c .if2 .taken) ∙ c .before .any-zero .ensures)
+    short-fault (x .w) (x .c .now) (c .before .before .if1 .taken) true (clear (x .c .now) _ true (c .before .meets .ensures) (c .if2 .taken))
 
 returns-2 : tie.Need-returns-2
 returns-2 c =
     let x = c .before .before .before .before .args in
-    short-zero (x .w) (x .c .now) (c .before .before .if1 .taken) false (sym (c .if2 .left) ∙ c .before .any-zero .ensures)
+    short-fault (x .w) (x .c .now) (c .before .before .if1 .taken) false (clear (x .c .now) _ false (c .before .meets .ensures) (c .if2 .left))
 
-sub-any-zero : tie.Need-sub-any-zero
-sub-any-zero c = search needs
+sub-front : tie.Need-sub-front
+sub-front c = search needs
 
-part-any-zero-start : tie.Need-part-any-zero-start
-part-any-zero-start c = search needs
+part-front-start : tie.Need-part-front-start
+part-front-start c = search needs
 
-part-any-zero-end : tie.Need-part-any-zero-end
-part-any-zero-end c = search needs
+part-front-end : tie.Need-part-front-end
+part-front-end c = search needs
 
-any-zero-requires-2 : tie.Need-any-zero-requires-2
-any-zero-requires-2 c κs = search needs
+meets-requires-2 : tie.Need-meets-requires-2
+meets-requires-2 c κs = search needs
 
 returns-3 : tie.Need-returns-3
 returns-3 c =
     let x = c .before .before .before .before .before .args in
-    reached 0 (partRows (x .w) (x .c .now)) (zero-front (x .c .now) (x .w / 4) _ true (c .before .any-zero2 .ensures) (c .if3 .taken))
+    reached 0 (partRows (x .w) (x .c .now)) (front (x .c .now) (x .w / 4) _ false (c .before .meets2 .ensures) (not-true _ (c .if3 .taken)))
     ∙ cube-parts (x .w) (x .c .now) (search needs)
 
 shared-slice-read-byte-fault : tie.Need-shared-slice-read-byte-fault
@@ -64,7 +68,7 @@ returns-4 c =
     let x = s .before .before .before .before .before .args in
     c .before .byte-fault .ensures
     ∙ reached 1 (partRows (x .w) (x .c .now))
-    (zero-front (x .c .now) (x .w / 4) _ false (s .before .any-zero2 .ensures) (s .if3 .left), λ e. c .if4 .taken (c .before .byte-fault .ensures ∙ e))
+    (front (x .c .now) (x .w / 4) _ true (s .before .meets2 .ensures) (not-false _ (s .if3 .left)), λ e. c .if4 .taken (c .before .byte-fault .ensures ∙ e))
     ∙ cube-parts (x .w) (x .c .now) (search needs)
 
 add-rest : tie.Need-add-rest
@@ -88,8 +92,8 @@ returns-5 c =
     let s = b .before .before .before in
     let x = s .before .before .before .before .before .args in
     reached 3 (partRows (x .w) (x .c .now)) (
-      zero-front (x .c .now) (x .w / 4) _ false (s .before .any-zero2 .ensures) (s .if3 .left),
-      (sym (b .before .byte-fault .ensures) ∙ b .if4 .left, (free-rest (x .c .now) (x .w / 4) _ true (c .before .all-free .ensures) (c .if5 .taken), tt)),
+      front (x .c .now) (x .w / 4) _ true (s .before .meets2 .ensures) (not-false _ (s .if3 .left)),
+      (sym (b .before .byte-fault .ensures) ∙ b .if4 .left, (rest (x .c .now) (x .w / 4) _ true (c .before .all-free .ensures) (c .if5 .taken), tt)),
     )
     ∙ cube-parts (x .w) (x .c .now) (search needs)
 
@@ -99,8 +103,8 @@ returns-6 c =
     let s = b .before .before .before in
     let x = s .before .before .before .before .before .args in
     reached 2 (partRows (x .w) (x .c .now)) (
-      zero-front (x .c .now) (x .w / 4) _ false (s .before .any-zero2 .ensures) (s .if3 .left),
-      (sym (b .before .byte-fault .ensures) ∙ b .if4 .left, free-rest (x .c .now) (x .w / 4) _ false (c .before .all-free .ensures) (c .if5 .left)),
+      front (x .c .now) (x .w / 4) _ true (s .before .meets2 .ensures) (not-false _ (s .if3 .left)),
+      (sym (b .before .byte-fault .ensures) ∙ b .if4 .left, rest (x .c .now) (x .w / 4) _ false (c .before .all-free .ensures) (c .if5 .left)),
     )
     ∙ cube-parts (x .w) (x .c .now) (search needs)
 
@@ -108,13 +112,13 @@ pub cube-fault-spec : {M : Type 1} → statement M
 cube-fault-spec =
     tie.close
     (tie.spec
-    any-zero-requires
+    meets-requires
     returns
     returns-2
-    sub-any-zero
-    part-any-zero-start
-    part-any-zero-end
-    any-zero-requires-2
+    sub-front
+    part-front-start
+    part-front-end
+    meets-requires-2
     returns-3
     shared-slice-read-byte-fault
     byte-fault-requires
