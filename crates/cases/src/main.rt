@@ -1,0 +1,203 @@
+// Worked cases of document 01's readings that cubes and region files show: each answer's number, operand, offset, count and bytes written, and then the
+// bytes written or the stretch in capital hex (- for none), and the place of a step.
+use answer::Answer;
+use libc::STDOUT_FILENO;
+
+const DIGITS: [u8; 16] = [
+    48,
+    49,
+    50,
+    51,
+    52,
+    53,
+    54,
+    55,
+    56,
+    57,
+    65,
+    66,
+    67,
+    68,
+    69,
+    70,
+];
+
+// Kind 1 of W 4, and the region files of **** alone and with a byte after it.
+const WIDTH: [u8; 6] = [4, 0, 1, 0, 4, 0];
+
+const ANY: [u8; 12] = [4, 0, 1, 0, 4, 0, 4, 0, 2, 0, 0, 255];
+
+const AFTER: [u8; 13] = [4, 0, 1, 0, 4, 0, 4, 0, 2, 0, 0, 255, 0];
+
+fn put(words: &[u8]) {
+    io::write_all(STDOUT_FILENO, words);
+}
+
+fn put_number(n: u64) {
+    io::print_decimal(STDOUT_FILENO, n);
+    put(b" ");
+}
+
+fn put_answer(a: Answer) {
+    put_number(a.number as u64);
+    put_number(a.operand as u64);
+    put_number(a.offset as u64);
+    put_number(a.count as u64);
+    put_number(a.written as u64);
+}
+
+fn put_byte(b: u8) {
+    put(&[DIGITS[(b / 16) as usize], DIGITS[(b % 16) as usize]]);
+}
+
+fn put_hex(s: &[u8]) {
+    if s.len() == 0 {
+        put(b"-");
+    }
+    let mut i = 0;
+    while i < s.len() {
+        put_byte(s[i]);
+        i += 1;
+    }
+}
+
+// An answer that writes nothing.
+fn tell(case: &[u8], a: Answer) {
+    put(case);
+    put_answer(a);
+    put(b"-\n");
+}
+
+fn tell_meet(case: &[u8], w: usize, a: &[u8], b: &[u8], out: &mut [u8]) {
+    let answer = cube::cube_meet(w, a, b, out);
+    put(case);
+    put_answer(answer);
+    let written = answer.written;
+    if written <= out.len() {
+        put_hex(&out[0..written]);
+    }
+    put(b"\n");
+}
+
+fn tell_wider<'a>(case: &[u8], w: usize, a: &'a [u8], b: &'a [u8]) {
+    put(case);
+    put_answer(cube::wider_number(w, a, b));
+    put_hex(cube::wider(w, a, b));
+    put(b"\n");
+}
+
+fn tell_view(case: &[u8], s: &[u8], d: usize, i: usize) {
+    put(case);
+    put_answer(region::view_number(s, d, i));
+    put_hex(region::view(s, d, i));
+    put(b"\n");
+}
+
+fn tell_step(case: &[u8], s: &[u8], place: usize) {
+    let step = region::read_on(s, place);
+    put(case);
+    put_answer(step.answer);
+    io::print_decimal(STDOUT_FILENO, step.place as u64);
+    put(b"\n");
+}
+
+fn cubes() {
+    tell(b"A2   ", cube::cube_in(4, &[0x9f], &[]));
+    tell(b"A5b  ", cube::cube_in(321, &[], &[]));
+    tell(b"A6d  ", cube::cube_in(3, &[0xfc], &[255]));
+    tell_meet(b"A9   ", 4, &[0xbf], &[0x7f], &mut []);
+    tell_meet(b"A9   ", 4, &[0xbf], &[0xdf], &mut []);
+    tell_meet(b"A9   ", 4, &[0xbf], &[0xdf], &mut [0]);
+    tell(b"A15  ", cube::cube_in(0, &[], &[]));
+    tell(b"A15  ", cube::cube_in(65540, &[255], &[255]));
+    tell_wider(b"A24  ", 4, &[0xbf], &[0xbf]);
+    tell_wider(b"A24  ", 4, &[0xb7], &[0x9f]);
+    tell(b"P3   ", cube::cube_in(2, &[0x50], &[0x5f]));
+}
+
+fn members() {
+    tell(b"A8b  ", region::region_member(&AFTER, &[0]));
+    tell(b"A16  ", region::diff_member(4, &[], &[]));
+    tell(
+        b"A16  ",
+        region::diff_member(4, &[4, 0, 2, 0, 0, 255], &[8]),
+    );
+    tell(b"A7   ", region::diff_member(4, &WIDTH, &[0]));
+    tell(b"A6   ", region::diff_member(4, &[3, 0, 2, 0, 65, 0], &[0]));
+    tell(b"A6b  ", region::diff_member(4, &[1, 0], &[0]));
+    tell(b"A6b  ", region::diff_member(4, &[1, 0, 2], &[0]));
+    tell(b"A6b  ", region::diff_member(4, &[2, 0, 3, 0], &[0]));
+    tell(
+        b"A6c  ",
+        region::diff_member(3, &[5, 0, 2, 0, 1, 0xfe, 0x0f], &[0]),
+    );
+    tell(
+        b"A4   ",
+        region::diff_member(4, &[4, 0, 2, 0, 0, 255, 0], &[0]),
+    );
+    tell(
+        b"P4   ",
+        region::diff_member(4, &[5, 0, 2, 0, 1, 255, 0x9f], &[0x80]),
+    );
+    tell(
+        b"P4   ",
+        region::diff_member(4, &[5, 0, 2, 0, 1, 255, 0x9f], &[0x00]),
+    );
+}
+
+fn views() {
+    tell_view(b"A1   ", &[], 0, 0);
+    tell_view(b"A5   ", &ANY, 0, 0);
+    tell_view(b"A8b  ", &AFTER, 0, 0);
+    tell_view(b"A25  ", &ANY, 0, 1);
+    tell_view(b"A25  ", &ANY, 1, 0);
+}
+
+fn steps() {
+    tell_step(b"A1   ", &[], 0);
+    tell_step(b"A5   ", &ANY, 0);
+    tell_step(b"A8b  ", &AFTER, 0);
+    tell_step(b"A26  ", &WIDTH, 0);
+    tell_step(b"A26  ", &[4, 0, 1, 0, 4, 0, 2, 0, 2, 0], 0);
+    tell_step(b"A27  ", &ANY, 1);
+    tell_step(b"A27  ", &ANY, 2);
+    tell_step(b"A27  ", &ANY, 3);
+    tell_step(b"A27  ", &ANY, 4);
+    tell_step(b"A27  ", &ANY, 5);
+    tell_step(b"A28  ", &WIDTH, 7);
+    tell_step(b"A29  ", &[4, 0, 1, 0, 0, 0], 6);
+    tell_step(b"A29  ", &[4, 0, 2, 0, 0, 255], 99);
+    tell_step(
+        b"A30  ",
+        &[4, 0, 1, 0, 4, 0, 9, 0, 2, 0, 5, 4, 0, 2, 0, 0, 255],
+        11,
+    );
+}
+
+// A byte of the file of W 4 whose differences are all ****.
+fn byte_of(i: usize) -> u8 {
+    if i < 6 { ANY[i] } else { ANY[6 + i % 6] }
+}
+
+// 256 differences, and a 257th, which is damaged too in the second file.
+fn full() {
+    let mut file = [0u8; 1548];
+    let mut i = 0;
+    while i < 1548 {
+        file[i] = byte_of(i);
+        i += 1;
+    }
+    tell(b"A8   ", region::region_member(&file, &[0]));
+    tell_step(b"A30b ", &file, 1542);
+    tell(b"256  ", region::region_member(&file[0..1542], &[0]));
+    file[1544] = 1;
+    tell(b"A8   ", region::region_member(&file, &[0]));
+}
+
+fn main() {
+    cubes();
+    members();
+    views();
+    steps();
+    full();
+}

@@ -1,0 +1,27 @@
+-- Whether a header is in differences of a file, by bytes: h is the header spelled as the cube that fixes each of its bits, and it is asked of each cube.
+--   cubeIn q h s a      == the first q bytes of h, as a cube, lie in the q bytes of s at an offset
+--   anyIn q h s a k     == they lie in one of the k cubes from an offset on
+--   inRecord w h s at   == they lie in the base of the record at an offset and in no cut of it
+--   anyRecord w h s os  == so it is of a record at one of the offsets os
+-- Assumes nothing: these are definitions.
+use Prim.Native.Nat.{ℕ, zero, suc, _+_}
+use mathlib.Core.List.{List, [], _∷_}
+use mathlib.Core.Bool.{Bool, false, not, _&&_, _||_}
+use lib.ListN.{take, drop}
+use Rattle.format.specs.Bytes.{cubeLen}
+use Rattle.format.specs.Records.{countAt}
+use Rattle.cube.specs.Pair.{liesIn}
+
+unfoldable pub cubeIn : ℕ → List ℕ → List ℕ → ℕ → Bool
+cubeIn q h s a = liesIn (take q h) (take q (drop a s))
+
+unfoldable pub anyIn : ℕ → List ℕ → List ℕ → ℕ → ℕ → Bool
+anyIn q h s a zero = false
+anyIn q h s a (suc k) = cubeIn q h s a || anyIn q h s (a + q) k
+
+unfoldable pub inRecord : ℕ → List ℕ → List ℕ → ℕ → Bool
+inRecord w h s at = cubeIn (cubeLen w) h s (at + 5) && not (anyIn (cubeLen w) h s (at + 5 + cubeLen w) (countAt s at))
+
+abbrev pub anyRecord : ℕ → List ℕ → List ℕ → List ℕ → Bool
+anyRecord w h s [] = false
+anyRecord w h s (at ∷ os) = inRecord w h s at || anyRecord w h s os

@@ -1,0 +1,5 @@
+pub mod Tests
+pub mod Ahead
+pub mod Asked
+pub mod Reader
+pub mod Viewing

@@ -1,0 +1,36 @@
+// Records and region files: read with every refusal in its order, asked, viewed and read on.
+mod bytes;
+mod calls;
+mod files;
+mod frame;
+mod limits;
+mod member;
+mod offset;
+mod record;
+mod steps;
+mod views;
+mod width;
+
+pub use bytes::count_at;
+pub use bytes::length_at;
+pub use calls::diff_member;
+pub use calls::region_member;
+pub use files::File;
+pub use files::check_file;
+pub use files::read_file;
+pub use limits::DIFFERENCE_KIND;
+pub use limits::FIRST;
+pub use limits::MOST_CUTS;
+pub use limits::MOST_DIFFERENCES;
+pub use limits::WIDTH_KIND;
+pub use offset::next_at;
+pub use offset::seek;
+pub use record::difference_fault;
+pub use steps::Step;
+pub use steps::read_on;
+pub use views::Stretch;
+pub use views::stretch_of;
+pub use views::view;
+pub use views::view_number;
+pub use width::width_fault;
+pub use width::width_of;
