@@ -5,4 +5,9 @@ pub mod Heading
 pub mod Recording
 pub mod Filing
 pub mod Rewriting
+pub mod Refusals
+pub mod Asking
+pub mod Deciding
+pub mod Belonging
+pub mod Viewing
 pub mod Figures
