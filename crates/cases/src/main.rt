@@ -1,4 +1,4 @@
-// Worked cases of document 01's readings that cubes and region files show: each answer's number, operand, offset, count and bytes written, and then the
+// Worked cases of document 01's readings and figures that cubes, region files and walks show: each answer's number, operand, offset, count and bytes written, and then the
 // bytes written or the stretch in capital hex (- for none), and the place of a step.
 use answer::Answer;
 use libc::STDOUT_FILENO;
@@ -194,10 +194,101 @@ fn full() {
     tell(b"A8   ", region::region_member(&file, &[0]));
 }
 
+// An answer of a walk, with the header where one is shown.
+fn tell_header(case: &[u8], a: Answer, header: &[u8]) {
+    put(case);
+    put_answer(a);
+    let written = a.written;
+    if written <= header.len() {
+        put_hex(&header[0..written]);
+    }
+    put(b"\n");
+}
+
+fn tell_empty(case: &[u8], w: usize, s: &[u8], allowance: u32) {
+    let mut header = [0u8; 1];
+    let a = walk::diff_empty(w, s, allowance, &mut header);
+    tell_header(case, a, &header);
+}
+
+fn tell_region(case: &[u8], s: &[u8], allowance: u32) {
+    let mut header = [0u8; 1];
+    let a = walk::region_empty(s, allowance, &mut header);
+    tell_header(case, a, &header);
+}
+
+fn tell_in(case: &[u8], w: usize, s: &[u8], t: &[u8], allowance: u32) {
+    let mut header = [0u8; 1];
+    let a = walk::diff_in(w, s, t, allowance, &mut header);
+    tell_header(case, a, &header);
+}
+
+fn walks() {
+    tell_empty(b"P4   ", 4, &[5, 0, 2, 0, 1, 255, 0x9f], 9);
+    tell(b"P4   ", walk::ceiling(4, &[5, 0, 2, 0, 1, 255, 0x9f]));
+    tell_empty(b"P5   ", 2, &[6, 0, 2, 0, 2, 255, 0xbf, 0x7f], 9);
+    tell(
+        b"P5   ",
+        walk::ceiling(2, &[6, 0, 2, 0, 2, 255, 0xbf, 0x7f]),
+    );
+    tell_empty(b"P6   ", 2, &[6, 0, 2, 0, 2, 255, 0xbf, 0x7f], 1);
+    tell_empty(b"P7   ", 2, &[7, 0, 2, 0, 3, 255, 0x5f, 0x6f, 0x9f], 9);
+    tell(
+        b"P7   ",
+        walk::ceiling(2, &[7, 0, 2, 0, 3, 255, 0x5f, 0x6f, 0x9f]),
+    );
+    tell_empty(b"A31  ", 2, &[6, 0, 2, 0, 2, 0xbf, 0x5f, 0x6f], 99);
+    tell_empty(b"A32  ", 2, &[6, 0, 2, 0, 2, 255, 0xbf, 0x7f], 2);
+    tell_region(b"A33  ", &WIDTH, 0);
+    tell_region(b"A33  ", &[4, 0, 1, 0, 4, 0, 5, 0, 2, 0, 1, 255, 255], 0);
+    tell_region(
+        b"A33  ",
+        &[
+            4,
+            0,
+            1,
+            0,
+            4,
+            0,
+            5,
+            0,
+            2,
+            0,
+            1,
+            255,
+            255,
+            5,
+            0,
+            2,
+            0,
+            1,
+            255,
+            255,
+        ],
+        1,
+    );
+    tell(b"A10  ", walk::region_empty(&WIDTH, 0, &mut []));
+    tell(b"A34  ", walk::ceiling(2, &[5, 0, 2, 0, 1, 0xbf, 0xaf]));
+    tell(
+        b"A34  ",
+        walk::ceiling(2, &[6, 0, 2, 0, 2, 255, 0xbf, 0xbf]),
+    );
+    tell(b"A34  ", walk::ceiling(2, &[6, 0, 2, 0, 2, 255, 255, 0xaf]));
+    tell_in(
+        b"A18  ",
+        2,
+        &[5, 0, 2, 0, 1, 0xbf, 0x9f],
+        &[5, 0, 2, 0, 1, 255, 0x9f],
+        99,
+    );
+    tell_in(b"A18  ", 2, &[4, 0, 2, 0, 0, 255], &[4, 0, 2, 0, 0, 255], 0);
+}
+
 fn main() {
     cubes();
     members();
     views();
     steps();
     full();
+    walks();
 }

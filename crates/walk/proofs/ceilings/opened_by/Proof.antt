@@ -1,0 +1,119 @@
+-- `walk::ceilings::opened_by` meets its contract. The loop's invariant: what is counted and what is still to count make the whole.
+-- Assumes nothing.
+use Prim.Native.Nat.{_+_, _-_, _*_, _≤_, _<_}
+use mathlib.Core.Path.{_≡_}
+use mathlib.Core.Bool.{true}
+use lib.ListN.{length, drop}
+use Rattle.model.specs.Cube.{meet, shares}
+use Rattle.format.specs.Bytes.{codes}
+use Rattle.cube.specs.Count.{freeCount}
+use Rattle.walk.proofs.Frees.{count-turn, met-turn, frees-fewer, frees-left}
+use native.Mathlib.Omega.{arith}
+use borrow.Author.Needs.{needs}
+use Rattle.walk.proofs.ceilings.opened_by.Statement.{statement}
+use Rattle.walk.proofs.ceilings.opened_by.Tie as tie
+
+abbrev Inv-loop : tie.InvT-loop
+Inv-loop base cut all₀ met₀ i₀ all met i =
+    (i ≤ length base) × (length base ≡ length cut) × (length base ≤ 80) × (all ≤ 4 * i) × (met ≤ 4 * i)
+    × (all + freeCount (codes (drop i base)) ≡ freeCount (codes base))
+    × (met + freeCount (meet (codes (drop i base)) (codes (drop i cut))) ≡ freeCount (meet (codes base) (codes cut)))
+    × (shares (codes base) (codes cut) ≡ true)
+
+abbrev μ-loop : tie.MeasureT-loop
+μ-loop base cut all₀ met₀ i₀ all met i = length base - i
+
+-- src/ceilings.rt:36:5
+loop-holds : tie.Need-loop-holds Inv-loop μ-loop
+loop-holds c = search needs
+
+-- src/ceilings.rt:37:23
+shared-slice-read-places : tie.Need-shared-slice-read-places Inv-loop μ-loop
+shared-slice-read-places c = search needs
+
+-- src/ceilings.rt:37:16
+places-requires : tie.Need-places-requires Inv-loop μ-loop
+places-requires c κs = search needs
+
+-- src/ceilings.rt:37:9
+add-all : tie.Need-add-all Inv-loop μ-loop
+add-all c = search needs
+
+-- src/ceilings.rt:38:23
+shared-slice-read-places-2 : tie.Need-shared-slice-read-places-2 Inv-loop μ-loop
+shared-slice-read-places-2 c = search needs
+
+-- src/ceilings.rt:38:33
+shared-slice-read-places-3 : tie.Need-shared-slice-read-places-3 Inv-loop μ-loop
+shared-slice-read-places-3 c = search needs
+
+-- src/ceilings.rt:38:16
+places-requires-2 : tie.Need-places-requires-2 Inv-loop μ-loop
+places-requires-2 c κs = search needs
+
+-- src/ceilings.rt:38:9
+add-met : tie.Need-add-met Inv-loop μ-loop
+add-met c = search needs
+
+-- src/ceilings.rt:39:9
+add-i : tie.Need-add-i Inv-loop μ-loop
+add-i c = search needs
+
+-- src/ceilings.rt:36:5
+loop-less : tie.Need-loop-less Inv-loop μ-loop
+loop-less c = search needs
+
+-- src/ceilings.rt:36:5
+loop-again : tie.Need-loop-again Inv-loop μ-loop
+loop-again c =
+    let x = c .before .before .before .before .before .before .before .before .before .args in
+    let l = c .before .before .before .before .before .before .loop in
+    let a = c .before .before .before .places in
+    let m = c .places2 in
+    let hb : l .i < length (x .base .now) = search needs in
+    let hc : l .i < length (x .cut .now) = omega (arith, l .inv .1) in (
+      search needs,
+      search needs,
+      search needs,
+      omega (arith, a .ensures .1, l .inv .3),
+      omega (arith, m .ensures .1, l .inv .4),
+      count-turn (x .base .now) (l .i) (l .all) (a .result) (freeCount (codes (x .base .now))) hb (a .ensures .0) (l .inv .5),
+      met-turn (x .base .now) (l .i) (l .met) (m .result) (freeCount (meet (codes (x .base .now)) (codes (x .cut .now)))) hb (x .cut .now) hc (m .ensures .0) (l .inv .6),
+      l .inv .7,
+    )
+
+-- src/ceilings.rt:41:5
+sub-result : tie.Need-sub-result Inv-loop μ-loop
+sub-result c =
+    let x = c .before .before .before .before .args in
+    let l = c .before .loop in
+    frees-fewer (x .base .now) (x .cut .now) (l .i) (l .all) (l .met) (search needs) (omega arith) (l .inv .7) (l .inv .5) (l .inv .6)
+
+-- src/ceilings.rt:29:1
+returns : tie.Need-returns Inv-loop μ-loop
+returns c =
+    let x = c .before .before .before .before .args in
+    let l = c .before .loop in (
+      frees-left (x .base .now) (x .cut .now) (l .i) (l .all) (l .met) (search needs) (omega arith) (l .inv .7) (l .inv .5) (l .inv .6),
+      omega (arith, l .inv .3, l .inv .0, l .inv .2),
+    )
+
+pub opened-by-spec : {M : Type 1} → statement M
+opened-by-spec =
+    tie.close
+    (tie.spec
+    Inv-loop
+    μ-loop
+    loop-holds
+    shared-slice-read-places
+    places-requires
+    add-all
+    shared-slice-read-places-2
+    shared-slice-read-places-3
+    places-requires-2
+    add-met
+    add-i
+    loop-less
+    loop-again
+    sub-result
+    returns)

@@ -1,0 +1,21 @@
+-- `walk::header::front_bits` meets its contract. Assumes nothing.
+use lib.Bits.{and-le-l}
+use Rattle.walk.proofs.Shown.{mask-right}
+use borrow.Author.Needs.{needs}
+use Rattle.walk.proofs.header.front_bits.Statement.{statement}
+use Rattle.walk.proofs.header.front_bits.Tie as tie
+
+cast-result : tie.Need-cast-result
+cast-result c = search needs
+
+shr-result : tie.Need-shr-result
+shr-result c = search needs
+
+sub-result : tie.Need-sub-result
+sub-result c = and-le-l (c .args .b) _
+
+returns : tie.Need-returns
+returns c = rw (mask-right (c .args .b) (c .args .n) (c .fits .b .fits) (c .pre))
+
+pub front-bits-spec : {M : Type 1} → statement M
+front-bits-spec = tie.close (tie.spec cast-result shr-result sub-result returns)

@@ -1,0 +1,10 @@
+-- `walk::opening::fixed_marks` meets its contract. Assumes nothing.
+use Rattle.walk.proofs.Marks.{fixed-right}
+use Rattle.walk.proofs.opening.fixed_marks.Statement.{statement}
+use Rattle.walk.proofs.opening.fixed_marks.Tie as tie
+
+returns : tie.Need-returns
+returns c = fixed-right (c .args .y) (c .fits .y .fits)
+
+pub fixed-marks-spec : {M : Type 1} → statement M
+fixed-marks-spec = tie.close (tie.spec returns)

@@ -1,0 +1,94 @@
+// Whether no header is in a difference or a region, or one that is.
+ghost use mathlib.Core.Path.{_≡_};
+ghost use Prim.Native.Nat.{_+_, _^_, _≤_, _<_};
+ghost use lib.ListN.{length};
+ghost use Rattle.model.specs.Walk.{walkRegion};
+ghost use Rattle.model.proofs.Padding.{padFound};
+ghost use Rattle.format.specs.Bytes.{cubeLen};
+ghost use Rattle.format.specs.Records.{widthOf};
+ghost use Rattle.format.specs.Files.{readFile, faultNumber, regionIn};
+ghost use Rattle.format.specs.Told.{over};
+ghost use Rattle.format.proofs.Coding.{unused};
+ghost use Rattle.format.specs.Calls.{diff-empty, region-empty};
+ghost use Rattle.walk.specs.Settle.{settle, view};
+use super::allowance::Allowance;
+use super::allowance::Outcome;
+use super::allowance::Verdict;
+use super::record::walk_record;
+use super::told::tell;
+use answer::Answer;
+use cube::WIDEST;
+use cube::cube_len;
+use cube::header_len;
+use region::check_file;
+use region::difference_fault;
+use region::next_at;
+
+// Whether no header is in the difference of a record: yes; no, and a header that is in is written over the front of out; or undecided within the
+// allowance.
+pub fn diff_empty(w: usize, s: &[u8], allowance: u32, out: &mut [u8]) -> Answer
+    ensures answer { λ r. ⌜ r ≡ diff-empty w (now (s .entry)) allowance (length (now (out .entry))) .answer ⌝ }
+    ensures bytes { λ _. ⌜ now (out .exit) ≡ over (now (out .entry)) (diff-empty w (now (s .entry)) allowance (length (now (out .entry))) .bytes) ⌝ }
+{
+    if w == 0 {
+        return Answer::said(10);
+    }
+    if WIDEST < w {
+        return Answer::said(10);
+    }
+    let fault = difference_fault(s, 0, w, 0, true);
+    if fault != 0 {
+        return Answer::fault(fault, 1, 0);
+    }
+    if out.len() < header_len(w) {
+        return Answer::said(22);
+    }
+    let start = Allowance {
+        left: allowance,
+        spent: 0,
+    };
+    tell(walk_record(cube_len(w), s, 0, start), w, out)
+}
+
+// Walks the differences of an accepted file, whose cubes have q bytes, one after another on one allowance, up to the first that is not covered.
+fn walk_file(q: usize, s: &[u8], a: Allowance) -> Outcome
+    requires { ⌜ (q ≡ cubeLen (widthOf (now s))) × (faultNumber (readFile (now s)) ≡ 0) × (a .left + a .spent < 2 ^ 32) ⌝ }
+    ensures { λ r. ⌜ view q r ≡ settle a (padFound (unused (widthOf (now (s .entry)))) (walkRegion (regionIn (now (s .entry))))) ⌝ }
+{
+    let mut have = a;
+    let mut at = 6;
+    while at < s.len() {
+        let v = walk_record(q, s, at, have);
+        let k = v.verdict;
+        let Verdict::Covered = k else {
+            return v;
+        };
+        have = v.allowance;
+        at = next_at(s, at);
+    }
+    Outcome {
+        allowance: have,
+        verdict: Verdict::Covered,
+        piece: [255u8; 80],
+    }
+}
+
+// The same of a region file: yes exactly when no difference of it has a header.
+pub fn region_empty(s: &[u8], allowance: u32, out: &mut [u8]) -> Answer
+    ensures answer { λ r. ⌜ r ≡ region-empty (now (s .entry)) allowance (length (now (out .entry))) .answer ⌝ }
+    ensures bytes { λ _. ⌜ now (out .exit) ≡ over (now (out .entry)) (region-empty (now (s .entry)) allowance (length (now (out .entry))) .bytes) ⌝ }
+{
+    let file = check_file(s);
+    if file.number != 0 {
+        return Answer::fault(file.number, 1, file.offset);
+    }
+    let w = file.width;
+    if out.len() < header_len(w) {
+        return Answer::said(22);
+    }
+    let start = Allowance {
+        left: allowance,
+        spent: 0,
+    };
+    tell(walk_file(cube_len(w), s, start), w, out)
+}

@@ -1,0 +1,32 @@
+// What the outcome of a walk tells.
+ghost use mathlib.Core.Path.{_≡_};
+ghost use Prim.Native.Nat.{_≤_};
+ghost use lib.ListN.{length};
+ghost use Rattle.format.specs.Bytes.{headerLen};
+ghost use Rattle.format.specs.Told.{over};
+ghost use Rattle.walk.specs.Tell.{toldOf};
+use super::allowance::Outcome;
+use super::allowance::Verdict;
+use super::header::show;
+use answer::Answer;
+use cube::header_len;
+
+// The answer of a walk; where a piece survives, the header that it shows is written over the front of out, which has room for it.
+pub(crate) fn tell(v: Outcome, w: usize, out: &mut [u8]) -> Answer
+    requires { ⌜ (w ≤ 320) × (headerLen w ≤ length (now out)) ⌝ }
+    ensures answer { λ r. ⌜ r ≡ toldOf w (v .verdict) (v .allowance .spent) (v .piece) .answer ⌝ }
+    ensures bytes { λ _. ⌜ now (out .exit) ≡ over (now (out .entry)) (toldOf w (v .verdict) (v .allowance .spent) (v .piece) .bytes) ⌝ }
+{
+    let verdict = v.verdict;
+    let allowance = v.allowance;
+    let spent = allowance.spent;
+    match verdict {
+        Verdict::Covered => Answer::counted(1, spent),
+        Verdict::Undecided => Answer::counted(3, spent),
+        Verdict::Survives => {
+            let piece = v.piece;
+            show(piece, w, out);
+            Answer::showing(spent, header_len(w))
+        }
+    }
+}

@@ -1,0 +1,25 @@
+/* The two questions that the packet broker's C host asks of a region file. Link libbroker.a. */
+#ifndef BROKER_H
+#define BROKER_H
+
+#include <stddef.h>
+#include <stdint.h>
+
+/* A result: its number (document 01's table), the operand at fault (1, 2, else 0), the offset of the record at fault,
+   the count of pieces, and the bytes written. Parts that do not apply are 0. */
+struct permit_answer {
+    uint8_t number;
+    uint8_t operand;
+    size_t offset;
+    uint32_t count;
+    size_t written;
+};
+
+/* Is the header in the region? 1 yes, 2 no, or a refusal. */
+struct permit_answer permit_member(const uint8_t *region, size_t region_len, const uint8_t *header, size_t header_len);
+
+/* Is no header in the region? 1 none, 2 one is and is written to the front of the buffer, 3 undecided within the
+   allowance, or a refusal. Nothing but the header written changes in the buffer. */
+struct permit_answer permit_empty(const uint8_t *region, size_t region_len, uint32_t allowance, uint8_t *header, size_t header_len);
+
+#endif
