@@ -1,6 +1,6 @@
 -- Cubes of bytes brought into words, and back. Assumes nothing.
 --   padded-inside, padded-behind, padded-long, padded-codes   the bytes of a cube with free places behind it
---   holds-none, holds-more   a word takes one byte more
+--   holds-none, holds-more, holds-free   a word takes one byte more; a word behind the bytes
 --   wide-holds               words that hold 80 bytes have their codes
 --   unloaded, byte-out       bytes taken out of words have their codes
 --   word-more, row-more      one word, and one row, more
@@ -10,18 +10,18 @@ use native.Mathlib.Omega.{arith}
 use mathlib.Core.Path.{_≡_, refl, sym, ap, _∙_}
 use mathlib.Core.Logic.{⊎-elim}
 use mathlib.Core.List.{List, [], _∷_, _++_}
-use lib.ListN.{length, getD, set, take, drop, replicate, length-append, length-replicate, getD-replicate, List·getD-append}
+use lib.ListN.{length, getD, set, take, replicate, length-append, length-replicate, getD-replicate, List·getD-append}
 use lib.Seq.{getD-set-same, getD-set-other, length-take-le, getD-take, getD-append-add}
 use lib.Bits.{bitAnd, and-mask}
 use lib.Pow.{pow-add, high, shr-shr}
-use Rattle.model.specs.Cube.{Code, none, free, Cube}
+use Rattle.model.specs.Cube.{free}
 use Rattle.model.proofs.Padding.{pad}
 use Rattle.format.specs.Bytes.{codeOf, codes}
 use Rattle.format.proofs.Coding.{length-codes, code-at}
 use Rattle.walk.specs.Cuts.{cubeOf, cutAt}
-use Rattle.walk.specs.Words.{placeAt, numberIn, codeIn, wide, row}
+use Rattle.walk.specs.Words.{placeAt, numberIn, wide, row}
 use Rattle.walk.specs.Loading.{padded, Holds, Loaded}
-use Rattle.walk.proofs.Digits.{same-or-not, below4, below-or, same-low}
+use Rattle.walk.proofs.Digits.{same-or-not, below4, below-or, same-low, threes-at}
 use Rattle.walk.proofs.Wide.{wide-ext}
 
 pub padded-inside : (q : ℕ) (bs : List ℕ) (b : ℕ) → q ≤ length bs → b < q → getD (padded q bs) b 0 ≡ getD bs b 0
@@ -54,6 +54,9 @@ padded-codes q bs =
     codes-append (take q bs) (replicate (80 - q) 255) ∙ rw (codes-free (80 - q), e)
 
 -- a word takes one byte more
+all-threes : (d : ℕ) → d < 4 → 255 / 4 ^ (3 - d) % 4 ≡ 3
+all-threes d h = below4 (λ (d : ℕ). 255 / 4 ^ (3 - d) % 4 ≡ 3) refl refl refl refl d h
+
 quarters : (d : ℕ) → d < 4 → 4 ^ (3 - d) ≡ 2 ^ (2 * (3 - d))
 quarters d h = below4 (λ (d : ℕ). 4 ^ (3 - d) ≡ 2 ^ (2 * (3 - d))) refl refl refl refl d h
 
@@ -79,6 +82,15 @@ holds-more P j b x y ey small h = (fits, digits)
             let e : 2 * (4 * (j + 1) - 1 - k) ≡ 2 * (3 - k % 4) = omega arith in
             let q : k / 4 ≡ j = omega arith in
             rw (e, q, ← ey, quarters (k % 4) (omega arith)) (same-low (x * 256 + y) y 8 2 (2 * (3 - k % 4)) (mul-add-mod-self-right x 256 y) (omega arith))
+
+-- a word behind the cube's bytes
+pub holds-free : (q : ℕ) (bs : List ℕ) (b : ℕ) → q ≤ length bs → q ≤ b → b ≤ 72 → Holds (padded q bs) 8 b 18446744073709551615
+holds-free q bs b l h k = (
+  omega arith,
+  λ j i.
+      let e : 2 * (4 * 8 - 1 - j) ≡ 62 - 2 * j = omega arith in
+      rw (e, threes-at j i, padded-behind q bs (b + j / 4) l (omega arith) (omega arith)) (sym (all-threes (j % 4) (omega arith))),
+)
 
 pub wide-holds : (ws P : List ℕ) → length P ≡ 80 → ((w : ℕ) → w < 10 → Holds P 8 (8 * w) (getD ws w 0)) → wide ws ≡ codes P
 unfolding numberIn

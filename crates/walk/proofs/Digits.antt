@@ -14,7 +14,7 @@ use mathlib.Core.Bool.{Bool, true, false, _&&_}
 use mathlib.Core.Logic.{_⊎_, inl, inr, ⊎-elim}
 use lib.Dec.{T, eqb, eqb→eq, lit<}
 use lib.Count.{leadingZeros, leading-top}
-use lib.Pow.{pow-pos, pow-mono, pow-add, split, high, low, shr-shr, shl-exact, field, mod-mod-pow}
+use lib.Pow.{pow-pos, split, high, low, shr-shr, shl-exact, field, mod-mod-pow}
 use lib.Bits.{bitAnd, bitOr, bitXor, and-shr, and-mod, or-shr, or-mod, xor-shr, xor-mod, and-mask, and-le-l, and-le-r, or-add-and, xor-add-and}
 use Rattle.model.specs.Walk.{opens}
 use Rattle.format.specs.Bytes.{codeOf}

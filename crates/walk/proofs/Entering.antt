@@ -9,8 +9,8 @@ use native.Mathlib.Nat.{div-eq-of-lt}
 use native.Mathlib.Omega.{arith}
 use mathlib.Core.Path.{_≡_, refl, sym, ap, _∙_}
 use mathlib.Core.Bool.{Bool, true, false, true≢false}
-use mathlib.Core.Logic.{_⊎_, inl, inr, ⊎-elim}
-use mathlib.Core.List.{List, [], _∷_}
+use mathlib.Core.Logic.{_⊎_, inr, ⊎-elim}
+use mathlib.Core.List.{List}
 use lib.ListN.{length, getD, set, take, drop, replicate, getD-replicate}
 use lib.Seq.{getD-set-same, getD-set-other}
 use Rattle.model.specs.Cube.{Code, none, v0, v1, free, Cube, shares}
@@ -18,7 +18,7 @@ use Rattle.model.specs.Walk.{opens}
 use Rattle.format.specs.Bytes.{codeOf, codes}
 use Rattle.walk.specs.Cuts.{cubeOf, cutAt}
 use Rattle.walk.specs.Opening.{bit, firstOpen}
-use Rattle.walk.specs.Words.{placeAt, numberIn, wide, row}
+use Rattle.walk.specs.Words.{numberIn, wide, row}
 use Rattle.walk.specs.Alive.{digit, clash, Against}
 use Rattle.walk.specs.Loading.{Entered, Met, rowOf}
 use Rattle.walk.proofs.Digits.{same-or-not, digit-below, digit-top, threes-at}

@@ -6,21 +6,21 @@
 --   alive-passed        the cuts of more weight are passed over
 --   alive-none          no digit: the piece survives
 --   against-fewer       a table for n cuts is one for fewer
-use Prim.Native.Nat.{ℕ, zero, suc, _+_, _-_, _*_, _/_, _%_, _^_, _≤_, _<_}
+use Prim.Native.Nat.{ℕ, zero, suc, _+_, _-_, _^_, _≤_, _<_}
 use native.Mathlib.Nat.{div-eq-of-lt, pow-suc}
 use native.Mathlib.Omega.{arith}
-use mathlib.Core.Path.{_≡_, refl, sym, ap, ap₂, _∙_}
-use mathlib.Core.Bool.{Bool, true, false, not, _&&_, and-false, cond, true≢false, false≢true}
+use mathlib.Core.Path.{_≡_, refl, sym, _∙_}
+use mathlib.Core.Bool.{Bool, true, false, not, _&&_, true≢false}
 use mathlib.Core.Logic.{_⊎_, ⊎-elim}
 use mathlib.Core.List.{List, [], _∷_}
-use lib.ListN.{length, getD, set}
-use lib.Pow.{pow-pos, pow-mono}
-use lib.Bits.{bitAnd, bitXor, xor-lt, and-lt, and-le-l}
+use lib.ListN.{getD, set}
+use lib.Pow.{pow-mono}
+use lib.Bits.{bitAnd, bitXor, xor-lt, and-le-l}
 use Rattle.model.specs.Cube.{Code, none, v0, v1, free, Cube, meetCode, coded, shares}
-use Rattle.model.specs.Walk.{piece, Found, visit, children, inTurn, counted}
+use Rattle.model.specs.Walk.{piece, visit, children, inTurn, counted}
 use Rattle.walk.specs.Opening.{bit}
 use Rattle.walk.specs.Words.{row, cutsBelow}
-use Rattle.walk.specs.Alive.{digit, clash, Alive, AgainstAt, Against}
+use Rattle.walk.specs.Alive.{clash, Alive, AgainstAt, Against}
 use Rattle.walk.proofs.Digits.{below-or, digit-and, digit-xor, digit-below, digit-top}
 
 -- a free position takes a value

@@ -6,12 +6,11 @@ use native.Mathlib.Omega.{arith}
 use mathlib.Core.Path.{_≡_, refl, sym, ap, _∙_}
 use mathlib.Core.Logic.{⊎-elim}
 use mathlib.Core.List.{[]}
-use Rattle.model.specs.Cube.{Cube}
 use Rattle.model.specs.Walk.{Survivor, nothing, piece, Found}
 use Rattle.walk.specs.Settle.{Said, after, saidOf, settle}
 use Rattle.walk.specs.Memory.{Finds}
 use Rattle.walk.specs.declared.allowance.Allowance.{Allowance}
-use Rattle.walk.specs.declared.allowance.Verdict.the-variants.{Covered, Survives, Undecided}
+use Rattle.walk.specs.declared.allowance.Verdict.the-variants.{Covered, Undecided}
 use Rattle.walk.proofs.Settle.{settle-le, settle-lt}
 use Rattle.walk.proofs.Digits.{below-or}
 

@@ -6,7 +6,7 @@
 --   recalls-right         a slot is used
 --   memory-set, memory-fresh   a slot is written; empty slots
 --   finds-covered         a walk that is paid for and covered
-use Prim.Native.Nat.{ℕ, zero, suc, _+_, _-_, _*_, _/_, _%_, _^_, _≤_, _<_}
+use Prim.Native.Nat.{ℕ, zero, suc, _+_, _-_, _/_, _%_, _^_, _≤_, _<_}
 use native.Mathlib.Nat.{mod-lt, div-eq-of-lt}
 use native.Mathlib.Omega.{arith}
 use mathlib.Core.Path.{_≡_, refl, sym, ap, ap₂, _∙_}
@@ -16,11 +16,11 @@ use mathlib.Core.List.{List, [], _∷_}
 use lib.Dec.{lit<}
 use lib.ListN.{length, getD, set, replicate, length-set}
 use lib.Seq.{getD-set-same, getD-set-other}
-use lib.Count.{leadingZeros, leading-length}
+use lib.Count.{leading-length}
 use lib.Pow.{pow-pos, pow-mono}
 use lib.Bits.{bitAnd, bitOr, bitXor}
 use Rattle.model.specs.Cube.{Code, none, v0, v1, free, Cube, meetCode, coded, shares}
-use Rattle.model.specs.Walk.{Survivor, nothing, piece, Found, opens, visit}
+use Rattle.model.specs.Walk.{opens, visit}
 use Rattle.model.specs.Alike.{opensAll, Alike}
 use Rattle.model.proofs.Bools.{and-left, and-right}
 use Rattle.model.proofs.Alike.{walk-alike}

@@ -4,25 +4,21 @@
 --   first-passed      a cut before the last 64
 --   trimmed           a walk of cubes with free places behind them says what the walk says
 --   enough            what a smaller allowance decided, the whole allowance decides
-use Prim.Native.Nat.{ℕ, zero, suc, _+_, _-_, _*_, _^_, _≤_, _<_, min}
+use Prim.Native.Nat.{ℕ, zero, suc, _+_, _-_, _*_, _≤_, _<_, min}
 use native.Mathlib.Nat.{suc-mul, add-mul, mul-le-mul-right}
 use native.Mathlib.Omega.{arith}
-use mathlib.Core.Path.{_≡_, refl, sym, ap, ap₂, _∙_}
+use mathlib.Core.Path.{_≡_, refl, sym, ap, _∙_}
 use mathlib.Core.Bool.{Bool, true, false, cond, true≢false}
 use mathlib.Core.Logic.{⊎-elim}
-use mathlib.Core.List.{List, [], _∷_, _++_, map}
+use mathlib.Core.List.{List, [], _∷_, map}
 use types.Run.{OneOf}
 use denote.Enum.Declared.{tagOf}
-use lib.ListN.{length, getD, take, drop, replicate, length-drop}
+use lib.ListN.{length, getD, take, replicate}
 use Rattle.model.specs.Cube.{Code, Cube, shares}
 use Rattle.model.specs.Walk.{Survivor, nothing, piece, Found, visit}
-use Rattle.model.specs.Sized.{All}
 use Rattle.model.proofs.Padding.{pad, Lengths, shares-pad, padSurvivor, padFound, visit-pad}
-use Rattle.model.proofs.Walking.{survivor-length}
-use Rattle.format.specs.Bytes.{codes}
 use Rattle.walk.specs.Cuts.{cubeOf, cutAt, cutsFrom}
 use Rattle.walk.specs.Settle.{Said, kept, view, after, saidOf, settle}
-use Rattle.walk.specs.Opening.{bit}
 use Rattle.walk.specs.Words.{wide, row, cutsBelow}
 use Rattle.walk.specs.Alive.{Alive}
 use Rattle.walk.specs.Loading.{rowOf, Loaded, Met}

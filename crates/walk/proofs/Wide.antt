@@ -5,7 +5,7 @@
 --   first-is                the first position that opens
 --   open-here, open-passed, open-ended   the search for it, word by word
 use Prim.Native.Nat.{ℕ, zero, suc, _+_, _-_, _*_, _/_, _%_, _^_, _≤_, _<_}
-use native.Mathlib.Nat.{mod-lt, div-eq-of-lt, mod-eq-of-lt, le-div-iff-mul-le, div-lt-iff-lt-mul}
+use native.Mathlib.Nat.{div-eq-of-lt, mod-eq-of-lt, le-div-iff-mul-le, div-lt-iff-lt-mul}
 use native.Mathlib.Omega.{arith}
 use mathlib.Core.Path.{_≡_, refl, sym, ap, _∙_}
 use mathlib.Core.Bool.{Bool, true, false, cond, true≢false}
@@ -15,12 +15,11 @@ use lib.ListN.{length, getD, set, length-set}
 use lib.Seq.{getD-set-same, getD-set-other}
 use lib.Count.{leadingZeros, leading-top}
 use lib.Pow.{pow-pos, pow-mono, pow-add}
-use lib.Dec.{lit<}
-use Rattle.model.specs.Cube.{Code, none, free, Cube}
+use Rattle.model.specs.Cube.{Code, none, Cube}
 use Rattle.model.specs.Walk.{opens}
 use Rattle.format.specs.Bytes.{codeOf}
 use Rattle.walk.specs.Opening.{bit, firstOpen}
-use Rattle.walk.specs.Words.{placeAt, numberIn, codeIn, tabled, wide, row, cutsBelow, Openings, Gives}
+use Rattle.walk.specs.Words.{placeAt, numberIn, codeIn, tabled, wide, row, Openings, Gives}
 use Rattle.walk.proofs.Openings.{first-most, first-opens}
 use Rattle.walk.proofs.Digits.{same-or-not, below-or}
 

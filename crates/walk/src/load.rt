@@ -35,9 +35,9 @@ pub(crate) fn load(s: &[u8], at: usize, q: usize) -> [u64; 10]
     requires { ⌜ (q ≤ 80) × (at + q ≤ length (now s)) ⌝ }
     ensures { λ r. ⌜ wide r ≡ pad (320 - 4 * q) (cutAt q (now (s .entry)) at) ⌝ }
 {
-    let mut ws = [0u64; 10];
+    let mut ws = [18446744073709551615u64; 10];
     let mut w = 0;
-    while w < 10 {
+    while 8 * w < q {
         ws[w] = word(s, at, q, 8 * w);
         w += 1;
     }

@@ -29,7 +29,7 @@ use super::visit;
 use cube::meets;
 
 // How many pieces are visited plainly: as many as the words cost to set up.
-const FEW: u32 = 128;
+const FEW: u32 = 100;
 
 // How many of the cuts have a digit: the last 64.
 fn digits(left: usize) -> usize
@@ -101,7 +101,7 @@ fn long_walk(q: usize, piece: [u8; 80], s: &[u8], at: usize, left: usize, a: All
     enter_all(&mut against, &cuts, n);
     let alive = alive_of(&piece[0..q], s, at + (left - n) * q, n);
     let first = first_meets(&piece[0..q], s, at, left);
-    let mut slots = [[0u64; 22]; 509];
+    let mut slots = [[0u64; 22]; 251];
     told(begin(
         load(&piece, 0, q),
         n,

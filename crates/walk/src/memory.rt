@@ -9,7 +9,7 @@ use super::alive::top;
 
 // Where a walk of a piece that meets the cuts `alive` is kept: any slot is right.
 pub(crate) fn slot_of(alive: u64) -> usize {
-    (alive % 509) as usize
+    (alive % 251) as usize
 }
 
 // How many pieces the walk has, where it is remembered in slot e; else 0.

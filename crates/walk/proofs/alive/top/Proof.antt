@@ -1,3 +1,4 @@
+-- `walk::alive::top` meets its contract. Assumes nothing.
 use Rattle.walk.proofs.Digits.{leading-small}
 use Rattle.walk.proofs.Digits.{Top, top-of}
 use lib.Count.{leading-le, leadingZeros}
@@ -6,21 +7,16 @@ use native.Mathlib.Omega.{arith}
 use borrow.Author.Needs.{needs}
 use Rattle.walk.proofs.alive.top.Statement.{statement}
 use Rattle.walk.proofs.alive.top.Tie as tie
-use Rattle.walk.proofs.alive.top.Reads as reads
-use Rattle.walk.proofs.alive.top.Lts as lts
 
 found : (c : tie.Start) → Top (c .args .x) (63 - leadingZeros 64 (c .args .x))
 found c = top-of _ (λ e. omega (arith, c .pre)) (search needs)
 
--- src/alive.rt:12:10
 cast-result : tie.Need-cast-result
 cast-result c = omega (arith, leading-le 64 (c .args .x))
 
--- src/alive.rt:12:5
 sub-result : tie.Need-sub-result
 sub-result c = omega (arith, leading-small (c .args .x) (λ e. omega (arith, c .pre)) (search needs))
 
--- src/alive.rt:8:1
 returns : tie.Need-returns
 returns c = let t = found c in (t .small, t .under, t .over)
 

@@ -1,7 +1,9 @@
+-- `walk::fast::visit` meets its contract, as its own cycle of calls. A turn of the loop is that of the plain visit; what is new is that the cuts met
+-- are digits of a word, and that a child's walk may be remembered. Assumes nothing.
 use Rattle.walk.specs.Settle.{Said}
 use Rattle.walk.specs.declared.allowance.Allowance.{Allowance}
 use borrow.Author.Needs.{needs}
-use Prim.Native.Nat.{ℕ, suc, _+_, _-_, _*_, _/_, _%_, _^_, _≤_, _<_}
+use Prim.Native.Nat.{ℕ, suc, _+_, _-_, _/_, _^_, _≤_, _<_}
 use native.Mathlib.Nat.{pos-of-ne-zero}
 use native.Mathlib.Omega.{arith}
 use mathlib.Core.Path.{_≡_, refl, sym, ap, _∙_}
@@ -163,27 +165,21 @@ at-later t c =
     let at = gv .before .before .before .before in
     later-first _ _ _ _ _ (at .loop .inv .4) (gv .before .before .before .loop-test .taken) (at-open t (gv .before) .fixed) (at-agreed t g2)
 
--- src/fast.rt:35:9
 visit-returns : (t : ℕ) → visit-lts.Need-returns (given t) (visit-at t) visit.Post Inv μ
 visit-returns t c = let st = c .before .before .before in (sym (settle-none _ _ (c .if1 .taken) (walk-positive _ _)), st .pre .1 .6)
 
--- src/fast.rt:41:9
 visit-spend-requires : (t : ℕ) → visit-lts.Need-spend-requires (given t) (visit-at t) visit.Post Inv μ
 visit-spend-requires t c κs = search needs
 
--- src/fast.rt:44:15
 visit-mul-cut : (t : ℕ) → visit-lts.Need-mul-cut (given t) (visit-at t) visit.Post Inv μ
 visit-mul-cut t c = search needs
 
--- src/fast.rt:44:15
 visit-shared-slice-copy-out-cut : (t : ℕ) → visit-lts.Need-shared-slice-copy-out-cut (given t) (visit-at t) visit.Post Inv μ
 visit-shared-slice-copy-out-cut t c = search needs
 
--- src/fast.rt:45:9
 visit-next-open-requires : (t : ℕ) → visit-lts.Need-next-open-requires (given t) (visit-at t) visit.Post Inv μ
 visit-next-open-requires t c κs = search needs
 
--- src/fast.rt:46:5
 visit-loop-holds : (t : ℕ) → visit-lts.Need-loop-holds (given t) (visit-at t) visit.Post Inv μ
 unfolding row
 visit-loop-holds t c =
@@ -192,55 +188,43 @@ visit-loop-holds t c =
     let p = st .pre .1 in
     (p .0, p .1, omega (arith, p .2, ap (λ (x : Allowance). x .left) (sp .spend .ensures), ap (λ (x : Allowance). x .spent) (sp .spend .ensures), pos-of-ne-zero (sp .before .if1 .left)), search needs, c .next-open .ensures, refl, refl, p .4, p .5, p .6, refl)
 
--- src/fast.rt:48:17
 visit-mul-x : (t : ℕ) → visit-lts.Need-mul-x (given t) (visit-at t) visit.Post Inv μ
 visit-mul-x t c = search needs
 
--- src/fast.rt:48:17
 visit-array-read-x : (t : ℕ) → visit-lts.Need-array-read-x (given t) (visit-at t) visit.Post Inv μ
 visit-array-read-x t c = search needs
 
--- src/fast.rt:49:13
 visit-number-in-requires : (t : ℕ) → visit-lts.Need-number-in-requires (given t) (visit-at t) visit.Post Inv μ
 visit-number-in-requires t c κs = search needs
 
--- src/fast.rt:50:36
 visit-sub-given : (t : ℕ) → visit-lts.Need-sub-given (given t) (visit-at t) visit.Post Inv μ
 visit-sub-given t c = search needs
 
--- src/fast.rt:50:19
 visit-given-requires : (t : ℕ) → visit-lts.Need-given-requires (given t) (visit-at t) visit.Post Inv μ
 visit-given-requires t c κs =
     let o = at-open t c in
     (omega arith, omega arith, o .place)
 
--- src/fast.rt:50:9
 visit-mul-near : (t : ℕ) → visit-lts.Need-mul-near (given t) (visit-at t) visit.Post Inv μ
 visit-mul-near t c = search needs
 
--- src/fast.rt:50:9
 visit-array-write-near : (t : ℕ) → visit-lts.Need-array-write-near (given t) (visit-at t) visit.Post Inv μ
 visit-array-write-near t c = search needs
 
--- src/fast.rt:51:45
 visit-sub-narrow : (t : ℕ) → visit-lts.Need-sub-narrow (given t) (visit-at t) visit.Post Inv μ
 visit-sub-narrow t c = search needs
 
--- src/fast.rt:51:13
 visit-narrow-requires : (t : ℕ) → visit-lts.Need-narrow-requires (given t) (visit-at t) visit.Post Inv μ
 visit-narrow-requires t c κs =
     let o = at-open t (c .before) in
     (c .before .before .before .loop-test .taken, omega (arith, o .most), omega (arith, o .least), c .before .before .before .before .loop .inv .1)
 
--- src/fast.rt:53:13
 visit-last-requires : (t : ℕ) → visit-lts.Need-last-requires (given t) (visit-at t) visit.Post Inv μ
 visit-last-requires t c κs = search needs
 
--- src/fast.rt:53:13
 visit-same-length : (t : ℕ) → visit-lts.Need-same-length (given t) (visit-at t) visit.Post Inv μ
 visit-same-length t c = search needs
 
--- src/fast.rt:53:13
 visit-returns-2 : (t : ℕ) → visit-lts.Need-returns-2 (given t) (visit-at t) visit.Post Inv μ
 visit-returns-2 t c =
     let nr = c .before .before in
@@ -255,27 +239,21 @@ visit-returns-2 t c =
       at .loop .inv .9,
     )
 
--- src/fast.rt:55:13
 visit-slot-of-requires : (t : ℕ) → visit-lts.Need-slot-of-requires (given t) (visit-at t) visit.Post Inv μ
 visit-slot-of-requires t c κs = search needs
 
--- src/fast.rt:56:13
 visit-look-requires : (t : ℕ) → visit-lts.Need-look-requires (given t) (visit-at t) visit.Post Inv μ
 visit-look-requires t c κs = search needs
 
--- src/fast.rt:58:13
 visit-pay-requires : (t : ℕ) → visit-lts.Need-pay-requires (given t) (visit-at t) visit.Post Inv μ
 visit-pay-requires t c κs = search needs
 
--- src/fast.rt:60:17
 visit-top-requires : (t : ℕ) → visit-lts.Need-top-requires (given t) (visit-at t) visit.Post Inv μ
 visit-top-requires t c κs = search needs
 
--- src/fast.rt:61:28
 visit-after-top-requires : (t : ℕ) → visit-lts.Need-after-top-requires (given t) (visit-at t) visit.Post Inv μ
 visit-after-top-requires t c κs = search needs
 
--- src/fast.rt:61:13
 visit-visit-requires : (t : ℕ) → visit-lts.Need-visit-requires (given t) (visit-at t) visit.Post Inv μ
 visit-visit-requires t c κs =
     let tp = c .before .before in
@@ -302,11 +280,9 @@ visit-visit-requires t c κs =
 visit-enum-told : (t : ℕ) → visit-lts.Need-enum-told (given t) (visit-at t) visit.Post Inv μ
 visit-enum-told t c = search needs
 
--- src/fast.rt:65:13
 visit-same-length-2 : (t : ℕ) → visit-lts.Need-same-length-2 (given t) (visit-at t) visit.Post Inv μ
 visit-same-length-2 t c = at-reply t (c .before) .2
 
--- src/fast.rt:65:13
 visit-returns-3 : (t : ℕ) → visit-lts.Need-returns-3 (given t) (visit-at t) visit.Post Inv μ
 visit-returns-3 t c =
     let j = c .before in
@@ -319,15 +295,12 @@ visit-returns-3 t c =
       at-reply t j .1,
     )
 
--- src/fast.rt:68:39
 visit-sub-keep : (t : ℕ) → visit-lts.Need-sub-keep (given t) (visit-at t) visit.Post Inv μ
 visit-sub-keep t c = at-covered t (c .before .before .before .before .before .before) .0
 
--- src/fast.rt:68:38
 visit-cast-keep : (t : ℕ) → visit-lts.Need-cast-keep (given t) (visit-at t) visit.Post Inv μ
 visit-cast-keep t c = search needs
 
--- src/fast.rt:68:9
 visit-keep-requires : (t : ℕ) → visit-lts.Need-keep-requires (given t) (visit-at t) visit.Post Inv μ
 visit-keep-requires t c κs =
     let nr = c .before .before .before .before .before .before .before .before .before .before .before .before .before in
@@ -336,40 +309,33 @@ visit-keep-requires t c κs =
     let b : g .n ≤ length (g .cuts .now) = omega (arith, at .loop .inv .0) in
     omega (arith, pow-mono b, at-child t nr .0)
 
--- src/fast.rt:70:19
 visit-given-requires-2 : (t : ℕ) → visit-lts.Need-given-requires-2 (given t) (visit-at t) visit.Post Inv μ
 visit-given-requires-2 t c κs =
     let o = at-open t (c .before .before .before .before .before .before .before .before .before .before .before .before .before .before .before .before .before) in
     (omega arith, omega (arith, o .most), o .place)
 
--- src/fast.rt:70:9
 visit-mul-near-2 : (t : ℕ) → visit-lts.Need-mul-near-2 (given t) (visit-at t) visit.Post Inv μ
 visit-mul-near-2 t c = search needs
 
--- src/fast.rt:70:9
 visit-array-write-near-2 : (t : ℕ) → visit-lts.Need-array-write-near-2 (given t) (visit-at t) visit.Post Inv μ
 visit-array-write-near-2 t c = search needs
 
--- src/fast.rt:71:9
 visit-narrow-requires-2 : (t : ℕ) → visit-lts.Need-narrow-requires-2 (given t) (visit-at t) visit.Post Inv μ
 visit-narrow-requires-2 t c κs =
     let num = c .before .before .before .before .before .before .before .before .before .before .before .before .before .before .before .before .before .before in
     let o = at-open t num in
     (num .before .before .loop-test .taken, o .least, o .most, num .before .before .before .loop .inv .1)
 
--- src/fast.rt:72:9
 visit-next-open-requires-2 : (t : ℕ) → visit-lts.Need-next-open-requires-2 (given t) (visit-at t) visit.Post Inv μ
 visit-next-open-requires-2 t c κs =
     let lp = c .before .before .before .before .before .before .before .before .before .before .before .before .before .before .before .before .before .before .before .before .before .before .before in
     (omega (arith, lp .loop-test .taken), omega (arith, at-later t c))
 
--- src/fast.rt:46:5
 visit-loop-less : (t : ℕ) → visit-lts.Need-loop-less (given t) (visit-at t) visit.Post Inv μ
 visit-loop-less t c =
     let lp = c .before .before .before .before .before .before .before .before .before .before .before .before .before .before .before .before .before .before .before .before .before .before .before .before in
     omega (arith, c .next-open2 .ensures, at-later t (c .before), lp .loop-test .taken)
 
--- src/fast.rt:46:5
 visit-loop-again : (t : ℕ) → visit-lts.Need-loop-again (given t) (visit-at t) visit.Post Inv μ
 visit-loop-again t c =
     let n2 = c .before .before .before in
@@ -400,11 +366,9 @@ visit-loop-again t c =
       omega (arith, g2 .before .slots2 .given, r .2),
     )
 
--- src/fast.rt:29:1
 visit-same-length-3 : (t : ℕ) → visit-lts.Need-same-length-3 (given t) (visit-at t) visit.Post Inv μ
 visit-same-length-3 t c = search needs
 
--- src/fast.rt:29:1
 visit-returns-4 : (t : ℕ) → visit-lts.Need-returns-4 (given t) (visit-at t) visit.Post Inv μ
 visit-returns-4 t c =
     let at = c .before in

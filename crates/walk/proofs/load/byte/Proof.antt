@@ -1,3 +1,4 @@
+-- `walk::load::byte` meets its contract. Assumes nothing.
 use Rattle.walk.proofs.Carrying.{padded-inside, padded-behind}
 use lib.Seq.{getD-drop}
 use lib.ListN.{drop, length-drop}
@@ -7,28 +8,21 @@ use Prim.Native.Nat.{_+_}
 use borrow.Author.Needs.{needs}
 use Rattle.walk.proofs.load.byte.Statement.{statement}
 use Rattle.walk.proofs.load.byte.Tie as tie
-use Rattle.walk.proofs.load.byte.Reads as reads
-use Rattle.walk.proofs.load.byte.Lts as lts
 
--- src/load.rt:16:18
 add-result : tie.Need-add-result
 add-result c = search needs
 
--- src/load.rt:16:16
 shared-slice-read-result : tie.Need-shared-slice-read-result
 shared-slice-read-result c = search needs
 
--- src/load.rt:16:16
 cast-result : tie.Need-cast-result
 cast-result c = omega (arith, c .shared-slice-known .given (c .before .before .args .at + c .before .before .args .b))
 
--- src/load.rt:12:1
 returns : tie.Need-returns
 returns c =
     let g = c .before .before .args in
     (sym (padded-inside (g .q) (drop (g .at) (g .s .now)) (g .b) (rw length-drop (omega arith)) (omega arith) ∙ rw getD-drop), omega (arith, c .shared-slice-known .given (g .at + g .b)))
 
--- src/load.rt:12:1
 returns-2 : tie.Need-returns-2
 returns-2 c = let g = c .before .args in (sym (padded-behind (g .q) (drop (g .at) (g .s .now)) (g .b) (rw length-drop (omega arith)) (omega arith) (omega arith)), omega arith)
 

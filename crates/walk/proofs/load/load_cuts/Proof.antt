@@ -1,16 +1,14 @@
+-- `walk::load::load_cuts` meets its contract. Assumes nothing.
 use native.Mathlib.Nat.{sub-zero}
 use Rattle.walk.proofs.Carrying.{Down, down, row-more}
 use Rattle.walk.specs.Loading.{Loaded}
-use lib.ListN.{length, getD, length-set}
+use lib.ListN.{length, length-set}
 use mathlib.Core.Path.{_≡_, refl, _∙_}
 use native.Mathlib.Omega.{arith}
-use Prim.Native.Nat.{ℕ, _+_, _-_, _*_, _≤_, _<_}
+use Prim.Native.Nat.{_+_, _-_, _*_, _≤_}
 use borrow.Author.Needs.{needs}
 use Rattle.walk.proofs.load.load_cuts.Statement.{statement}
 use Rattle.walk.proofs.load.load_cuts.Tie as tie
-use Rattle.walk.proofs.load.load_cuts.Reads as reads
-use Rattle.walk.proofs.load.load_cuts.Lts as lts
-use Rattle.walk.proofs.load.load.Reads as load-reads
 
 abbrev Inv-loop : tie.InvT-loop
 Inv-loop cuts₀ s at n q m₀ here₀ cuts m here =
@@ -19,46 +17,36 @@ Inv-loop cuts₀ s at n q m₀ here₀ cuts m here =
 abbrev μ-loop : tie.MeasureT-loop
 μ-loop cuts₀ s at n q m₀ here₀ cuts m here = n - m
 
--- src/load.rt:53:25
 mul-here : tie.Need-mul-here Inv-loop μ-loop
 mul-here c = search needs
 
--- src/load.rt:53:20
 add-here : tie.Need-add-here Inv-loop μ-loop
 add-here c = search needs
 
--- src/load.rt:54:5
 loop-holds : tie.Need-loop-holds Inv-loop μ-loop
 loop-holds c = let st = c .before in (st .pre .0, omega arith, st .pre .2, st .pre .1, rw sub-zero refl, refl, λ m h. absurd (omega arith))
 
 step : (c : tie.In-loop Inv-loop μ-loop) → let at = c .before in let g = at .before .before .args in Down (g .at) (g .n) (at .loop .m) (g .q) (at .loop .here) (length (g .s .now))
 step c = let v = c .before .loop .inv in down _ _ _ _ _ _ (c .loop-test .taken) (v .4) (v .3)
 
--- src/load.rt:55:9
 sub-here : tie.Need-sub-here Inv-loop μ-loop
 sub-here c = step c .there
 
--- src/load.rt:56:19
 load-requires : tie.Need-load-requires Inv-loop μ-loop
 load-requires c κs = (c .before .loop .inv .0, step c .inside)
 
--- src/load.rt:56:9
 mul-t11 : tie.Need-mul-t11 Inv-loop μ-loop
 mul-t11 c = search needs
 
--- src/load.rt:56:9
 slice-set-from-cuts : tie.Need-slice-set-from-cuts Inv-loop μ-loop
 slice-set-from-cuts c = search needs
 
--- src/load.rt:57:9
 add-m : tie.Need-add-m Inv-loop μ-loop
 add-m c = search needs
 
--- src/load.rt:54:5
 loop-less : tie.Need-loop-less Inv-loop μ-loop
 loop-less c = search needs
 
--- src/load.rt:54:5
 loop-again : tie.Need-loop-again Inv-loop μ-loop
 loop-again c =
     let at = c .before .before in
@@ -74,11 +62,9 @@ loop-again c =
       row-more (g .q) (g .s .now) (g .at) (g .n) (at .loop .cuts) (at .loop .m) _ (c .load .result) (omega (arith, v .2, c .before .loop-test .taken)) (d .row) (c .load .ensures) (v .6),
     )
 
--- src/load.rt:48:1
 same-length : tie.Need-same-length Inv-loop μ-loop
 same-length c = search needs
 
--- src/load.rt:48:1
 returns : tie.Need-returns Inv-loop μ-loop
 returns c = λ m h. c .before .loop .inv .6 m (omega (arith, c .loop-test .left))
 

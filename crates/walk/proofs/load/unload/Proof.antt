@@ -1,3 +1,4 @@
+-- `walk::load::unload` meets its contract. Assumes nothing.
 use Rattle.walk.proofs.Carrying.{byte-out}
 use lib.Bits.{and-le-r}
 use lib.ListN.{length-set}
@@ -6,12 +7,10 @@ use Rattle.walk.proofs.Carrying.{unloaded}
 use lib.ListN.{length, getD}
 use mathlib.Core.Path.{_≡_, refl}
 use native.Mathlib.Omega.{arith}
-use Prim.Native.Nat.{ℕ, _+_, _-_, _*_, _/_, _%_, _≤_, _<_, _^_}
+use Prim.Native.Nat.{ℕ, _-_, _*_, _/_, _%_, _≤_, _<_, _^_}
 use borrow.Author.Needs.{needs}
 use Rattle.walk.proofs.load.unload.Statement.{statement}
 use Rattle.walk.proofs.load.unload.Tie as tie
-use Rattle.walk.proofs.load.unload.Reads as reads
-use Rattle.walk.proofs.load.unload.Lts as lts
 
 abbrev Inv-loop : tie.InvT-loop
 Inv-loop ws bytes₀ b₀ bytes b = (b ≤ 80) × (length bytes ≡ 80) × ((k : ℕ) → k < b → getD bytes k 0 ≡ getD ws (k / 8) 0 / 2 ^ (56 - 8 * (k % 8)) % 256)
@@ -19,53 +18,41 @@ Inv-loop ws bytes₀ b₀ bytes b = (b ≤ 80) × (length bytes ≡ 80) × ((k :
 abbrev μ-loop : tie.MeasureT-loop
 μ-loop ws bytes₀ b₀ bytes b = 80 - b
 
--- src/load.rt:67:5
 loop-holds : tie.Need-loop-holds Inv-loop μ-loop
 loop-holds c = (omega arith, refl, λ k h. absurd (omega arith))
 
--- src/load.rt:68:22
 mul-bytes : tie.Need-mul-bytes Inv-loop μ-loop
 mul-bytes c = search needs
 
--- src/load.rt:68:22
 element-copy-out-bytes : tie.Need-element-copy-out-bytes Inv-loop μ-loop
 element-copy-out-bytes c = search needs
 
--- src/load.rt:68:41
 mul-bytes-2 : tie.Need-mul-bytes-2 Inv-loop μ-loop
 mul-bytes-2 c = search needs
 
--- src/load.rt:68:36
 sub-bytes : tie.Need-sub-bytes Inv-loop μ-loop
 sub-bytes c = search needs
 
--- src/load.rt:68:22
 shr-bytes : tie.Need-shr-bytes Inv-loop μ-loop
 shr-bytes c = search needs
 
--- src/load.rt:68:20
 cast-bytes : tie.Need-cast-bytes Inv-loop μ-loop
 cast-bytes c = omega (arith, and-le-r (getD (c .before .before .before .args .ws .now) (c .before .before .loop .b / 8) 0 / 2 ^ (56 - 8 * (c .before .before .loop .b % 8))) 255)
 
--- src/load.rt:68:9
 array-write-bytes : tie.Need-array-write-bytes Inv-loop μ-loop
 array-write-bytes c = search needs
 
--- src/load.rt:69:9
 add-b : tie.Need-add-b Inv-loop μ-loop
 add-b c = search needs
 
--- src/load.rt:67:5
 loop-less : tie.Need-loop-less Inv-loop μ-loop
 loop-less c = search needs
 
--- src/load.rt:67:5
 loop-again : tie.Need-loop-again Inv-loop μ-loop
 loop-again c =
     let at = c .before .before in
     (omega arith, length-set (at .loop .bytes) (at .loop .b) _ ∙ at .loop .inv .1, byte-out (at .before .args .ws .now) (at .loop .bytes) (at .loop .b) (at .loop .inv .1) (c .before .loop-test .taken) (at .loop .inv .2))
 
--- src/load.rt:62:1
 returns : tie.Need-returns Inv-loop μ-loop
 returns c = let at = c .before in unloaded (at .before .args .ws .now) (at .loop .bytes) (at .loop .inv .1) (λ b h. at .loop .inv .2 b (omega (arith, c .loop-test .left)))
 

@@ -1,51 +1,36 @@
+-- `walk::long::begin` meets its contract. Assumes nothing.
 use Rattle.walk.proofs.Meeting.{alive-fewer, alive-meets, alive-top, alive-passed, alive-none, against-fewer}
 use Rattle.walk.specs.Words.{wide}
 use Rattle.walk.specs.Settle.{settle}
-use lib.Pow.{pow-mono}
-use native.Mathlib.Nat.{pos-of-ne-zero}
-use mathlib.Core.Path.{_≡_, refl, sym, ap, _∙_}
+use mathlib.Core.Path.{sym, ap, _∙_}
 use native.Mathlib.Omega.{arith}
 use borrow.Author.Needs.{needs}
 use Rattle.walk.proofs.long.begin.Statement.{statement}
 use Rattle.walk.proofs.long.begin.Tie as tie
-use Rattle.walk.proofs.long.begin.Reads as reads
-use Rattle.walk.proofs.long.begin.Lts as lts
-use Rattle.walk.proofs.alive.after_top.Reads as after-top-reads
-use Rattle.walk.proofs.alive.top.Reads as top-reads
-use Rattle.walk.proofs.fast.visit.Reads as visit-reads
-use Rattle.walk.proofs.reply.last.Reads as last-reads
 
--- src/long.rt:59:9
 visit-requires : tie.Need-visit-requires
 visit-requires c κs = let p = c .before .before .before .pre in (p .0, p .1, p .2, p .3 (c .before .if1 .taken), p .4, p .5, p .6)
 
--- src/long.rt:59:9
 same-length : tie.Need-same-length
 same-length c = search needs
 
--- src/long.rt:59:9
 returns : tie.Need-returns
 returns c = rw (c .before .before .before .if1 .taken) (c .before .visit .ensures .0)
 
--- src/long.rt:62:9
 last-requires : tie.Need-last-requires
 last-requires c κs = search needs
 
--- src/long.rt:62:9
 returns-2 : tie.Need-returns-2
 returns-2 c =
     let st = c .before .before .before .before in
     rw (c .before .before .if1 .left) (c .last .ensures ∙ ap (settle (st .args .a)) (sym (alive-none _ _ _ _ (st .pre .4) (c .before .if2 .taken))))
 
--- src/long.rt:64:9
 top-requires : tie.Need-top-requires
 top-requires c κs = search needs
 
--- src/long.rt:65:23
 after-top-requires : tie.Need-after-top-requires
 after-top-requires c κs = search needs
 
--- src/long.rt:65:5
 visit-requires-2 : tie.Need-visit-requires-2
 visit-requires-2 c κs =
     let tp = c .before .before in
@@ -64,11 +49,9 @@ visit-requires-2 c κs =
       p .6,
     )
 
--- src/long.rt:54:1
 same-length-2 : tie.Need-same-length-2
 same-length-2 c = search needs
 
--- src/long.rt:54:1
 returns-3 : tie.Need-returns-3
 returns-3 c =
     let vs = c .before in

@@ -1,45 +1,34 @@
+-- `walk::long::first_meets` meets its contract. Assumes nothing.
 use Rattle.walk.proofs.Cuts.{part-cut}
 use Rattle.walk.proofs.Whole.{one-fits}
 use Rattle.format.specs.Bytes.{codes}
 use Rattle.model.specs.Cube.{shares}
 use lib.ListN.{length}
-use mathlib.Core.Path.{_≡_, _∙_, ap}
-use native.Mathlib.Nat.{suc-mul}
-use Prim.Native.Nat.{_≤_, _*_, _-_, suc}
+use mathlib.Core.Path.{_∙_, ap}
 use mathlib.Core.Path.{refl}
 use native.Mathlib.Omega.{arith}
 use borrow.Author.Needs.{needs}
 use Rattle.walk.proofs.long.first_meets.Statement.{statement}
 use Rattle.walk.proofs.long.first_meets.Tie as tie
-use Rattle.walk.proofs.long.first_meets.Reads as reads
-use Rattle.walk.proofs.long.first_meets.Lts as lts
-use Rattle.cube.proofs.meets.Reads as meets-reads
 
--- src/long.rt:47:9
 returns : tie.Need-returns
 returns c = (λ h. refl, λ h. absurd (omega arith))
 
--- src/long.rt:49:15
 add-end : tie.Need-add-end
 add-end c = let st = c .before .before .before in omega (arith, one-fits (st .args .at) (st .args .left) (length (st .args .piece .now)) (length (st .args .s .now)) (search needs) (st .pre), st)
 
--- src/long.rt:50:18
 sub-meets : tie.Need-sub-meets
 sub-meets c = search needs
 
--- src/long.rt:50:18
 part-meets-start : tie.Need-part-meets-start
 part-meets-start c = search needs
 
--- src/long.rt:50:18
 part-meets-end : tie.Need-part-meets-end
 part-meets-end c = let st = c .before .before .before in omega (arith, one-fits (st .args .at) (st .args .left) (length (st .args .piece .now)) (length (st .args .s .now)) (search needs) (st .pre))
 
--- src/long.rt:50:5
 meets-requires : tie.Need-meets-requires
 meets-requires c κs = search needs
 
--- src/long.rt:42:1
 returns-2 : tie.Need-returns-2
 returns-2 c =
     let st = c .before .before .before .before .before in

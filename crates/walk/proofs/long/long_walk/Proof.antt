@@ -1,3 +1,4 @@
+-- `walk::long::long_walk` meets its contract. Assumes nothing.
 use Rattle.walk.proofs.Whole.{loaded-alive, first-met, first-passed, whole, told-view, last-fit, zeros}
 use Rattle.walk.proofs.Slots.{memory-fresh}
 use Rattle.walk.proofs.Step.{front-length, front-cube, cube-length}
@@ -6,27 +7,16 @@ use Rattle.walk.specs.Loading.{Met}
 use Rattle.walk.specs.Words.{wide}
 use Rattle.walk.specs.Settle.{settle}
 use Rattle.walk.specs.Cuts.{cubeOf, cutAt}
-use Rattle.format.specs.Bytes.{codes}
 use Rattle.model.proofs.Walking.{survivor-length}
 use Rattle.model.proofs.Padding.{pad}
 use Rattle.model.specs.Cube.{shares}
-use lib.ListN.{length, take, drop}
+use lib.ListN.{length}
 use mathlib.Core.Path.{_≡_, refl, sym, ap, _∙_}
-use Prim.Native.Nat.{ℕ, suc, _+_, _-_, _*_, _≤_, _<_, min}
+use Prim.Native.Nat.{_+_, _-_, _*_, _≤_}
 use native.Mathlib.Omega.{arith}
 use borrow.Author.Needs.{needs}
 use Rattle.walk.proofs.long.long_walk.Statement.{statement}
 use Rattle.walk.proofs.long.long_walk.Tie as tie
-use Rattle.walk.proofs.long.long_walk.Reads as reads
-use Rattle.walk.proofs.long.long_walk.Lts as lts
-use Rattle.walk.proofs.load.load.Reads as load-reads
-use Rattle.walk.proofs.load.load_cuts.Reads as load-cuts-reads
-use Rattle.walk.proofs.long.begin.Reads as begin-reads
-use Rattle.walk.proofs.long.digits.Reads as digits-reads
-use Rattle.walk.proofs.long.first_meets.Reads as first-meets-reads
-use Rattle.walk.proofs.long.told.Reads as told-reads
-use Rattle.walk.proofs.table.alive_of.Reads as alive-of-reads
-use Rattle.walk.proofs.table.enter_all.Reads as enter-all-reads
 
 -- the piece has 80 bytes
 long : (c : tie.Start) → c .args .q ≤ length (c .args .t2)
@@ -65,101 +55,78 @@ first c =
     let st = c .before .before .before .before .before .before .before .before .before .before .before .before .before .before .before in
     rw (front-length (st .args .q) (st .args .t2) (long st), front-cube (st .args .q) (st .args .t2)) at (c .first-meets .ensures)
 
--- src/long.rt:89:15
 slice-aggregate-load-cuts : tie.Need-slice-aggregate-load-cuts
 slice-aggregate-load-cuts c = search needs
 
--- src/long.rt:89:5
 load-cuts-requires : tie.Need-load-cuts-requires
 load-cuts-requires c κs = search needs
 
--- src/long.rt:90:9
 digits-requires : tie.Need-digits-requires
 digits-requires c κs = search needs
 
--- src/long.rt:92:15
 slice-aggregate-enter-all : tie.Need-slice-aggregate-enter-all
 slice-aggregate-enter-all c = search needs
 
--- src/long.rt:92:29
 slice-aggregate-enter-all-2 : tie.Need-slice-aggregate-enter-all-2
 slice-aggregate-enter-all-2 c = search needs
 
--- src/long.rt:92:5
 enter-all-requires : tie.Need-enter-all-requires
 enter-all-requires c κs =
     let dg = c .before .before in
     (refl, omega (arith, dg .digits .ensures), omega (arith, dg .digits .ensures, dg .before .cuts2 .given, dg .before .before .before .before .before .pre .2), zeros 640)
 
--- src/long.rt:93:26
 sub-alive-of : tie.Need-sub-alive-of
 sub-alive-of c = search needs
 
--- src/long.rt:93:26
 part-alive-of-start : tie.Need-part-alive-of-start
 part-alive-of-start c = search needs
 
--- src/long.rt:93:26
 part-alive-of-end : tie.Need-part-alive-of-end
 part-alive-of-end c = search needs
 
--- src/long.rt:93:49
 sub-alive-of-2 : tie.Need-sub-alive-of-2
 sub-alive-of-2 c = omega (arith, c .before .before .before .before .before .before .digits .ensures)
 
--- src/long.rt:93:48
 mul-alive-of : tie.Need-mul-alive-of
 mul-alive-of c = omega (arith, fit c, c .before .before .before .before .before .before .before .before .before .before .before)
 
--- src/long.rt:93:43
 add-alive-of : tie.Need-add-alive-of
 add-alive-of c = omega (arith, fit c, c .before .before .before .before .before .before .before .before .before .before .before)
 
--- src/long.rt:93:9
 alive-of-requires : tie.Need-alive-of-requires
 alive-of-requires c κs =
     let st = c .before .before .before .before .before .before .before .before .before .before .before in
     (omega (arith, c .before .before .before .before .before .before .digits .ensures), rw (front-length (st .args .q) (st .args .t2) (long st)) (fit c))
 
--- src/long.rt:94:29
 sub-first-meets : tie.Need-sub-first-meets
 sub-first-meets c = search needs
 
--- src/long.rt:94:29
 part-first-meets-start : tie.Need-part-first-meets-start
 part-first-meets-start c = search needs
 
--- src/long.rt:94:29
 part-first-meets-end : tie.Need-part-first-meets-end
 part-first-meets-end c = search needs
 
--- src/long.rt:94:9
 first-meets-requires : tie.Need-first-meets-requires
 first-meets-requires c κs =
     let st = c .before .before .before .before .before .before .before .before .before .before .before .before .before .before in
     rw (front-length (st .args .q) (st .args .t2) (long st)) (st .pre .1)
 
--- src/long.rt:96:21
 slice-aggregate-load : tie.Need-slice-aggregate-load
 slice-aggregate-load c = search needs
 
--- src/long.rt:96:16
 load-requires : tie.Need-load-requires
 load-requires c κs = search needs
 
--- src/long.rt:96:56
 slice-aggregate-begin : tie.Need-slice-aggregate-begin
 slice-aggregate-begin c = search needs
 
--- src/long.rt:96:63
 slice-aggregate-begin-2 : tie.Need-slice-aggregate-begin-2
 slice-aggregate-begin-2 c = search needs
 
--- src/long.rt:96:73
 slice-aggregate-begin-3 : tie.Need-slice-aggregate-begin-3
 slice-aggregate-begin-3 c = search needs
 
--- src/long.rt:96:10
 begin-requires : tie.Need-begin-requires
 begin-requires c κs =
     let ld = c .before .before .before in
@@ -179,14 +146,12 @@ begin-requires c κs =
       first-met (g .q) (g .s .now) (g .at) (g .left) _ (lc .load-cuts .ensures) (p .1) (cubeOf (g .q) (g .t2)) _ lp (base ld) n _ (dg .digits .ensures) (p .2) (first fm),
       loaded-alive (g .q) (g .s .now) (g .at) (g .left) _ (lc .load-cuts .ensures) (p .1) (cubeOf (g .q) (g .t2)) _ lp (base ld) n _ (omega (arith, dg .digits .ensures)) (alive al),
       ag .before .enter-all .ensures,
-      memory-fresh _ 509,
+      memory-fresh _ 251,
     )
 
--- src/long.rt:96:5
 told-requires : tie.Need-told-requires
 told-requires c κs = search needs
 
--- src/long.rt:84:1
 returns : tie.Need-returns
 returns c =
     let bg = c .before .before in

@@ -1,49 +1,38 @@
+-- `walk::long::walk` meets its contract. Assumes nothing.
 use Rattle.walk.proofs.Whole.{not-undecided, resumed-fits, resumed-view}
-use mathlib.Core.Path.{_≡_, refl}
+use mathlib.Core.Path.{refl}
 use native.Mathlib.Omega.{arith}
 use borrow.Author.Needs.{needs}
 use Rattle.walk.proofs.long.walk.Statement.{statement}
 use Rattle.walk.proofs.long.walk.Tie as tie
-use Rattle.walk.proofs.long.walk.Reads as reads
-use Rattle.walk.proofs.long.walk.Lts as lts
-use Rattle.walk.proofs.long.long_walk.Reads as long-walk-reads
-use Rattle.walk.proofs.long.resumed.Reads as resumed-reads
-use Rattle.walk.proofs.visit.visit.Reads as visit-reads
 
--- src/long.rt:123:9
 visit-requires : tie.Need-visit-requires
 visit-requires c κs = search needs
 
--- src/long.rt:123:9
 returns : tie.Need-returns
 returns c = search needs
 
--- src/long.rt:129:9
 visit-requires-2 : tie.Need-visit-requires-2
 visit-requires-2 c κs = search needs
 
 enum-told : tie.Need-enum-told
 enum-told c = search needs
 
--- src/long.rt:132:9
 resumed-requires : tie.Need-resumed-requires
 resumed-requires c κs =
     let vs = c .before in
     let st = vs .before .before .before .before in
     resumed-fits (st .args .q) (st .args .a) _ _ (vs .visit2 .result) (omega (arith, vs .before .if1 .left)) refl (vs .visit2 .ensures) (not-undecided _ (c .match .keys2))
 
--- src/long.rt:132:9
 returns-2 : tie.Need-returns-2
 returns-2 c =
     let vs = c .before .before in
     let st = vs .before .before .before .before in
     resumed-view (st .args .q) (st .args .a) _ _ (vs .visit2 .result) (omega (arith, vs .before .if1 .left)) refl (vs .visit2 .ensures) (not-undecided _ (c .before .match .keys2)) (c .resumed .result) (c .resumed .ensures)
 
--- src/long.rt:134:5
 long-walk-requires : tie.Need-long-walk-requires
 long-walk-requires c κs = search needs
 
--- src/long.rt:118:1
 returns-3 : tie.Need-returns-3
 returns-3 c = search needs
 

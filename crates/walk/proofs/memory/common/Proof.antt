@@ -1,3 +1,4 @@
+-- `walk::memory::common` meets its contract. Assumes nothing.
 use Rattle.walk.proofs.Meeting.{alive-top}
 use Rattle.walk.proofs.Slots.{common-turn, common-end}
 use Rattle.walk.specs.Memory.{Lies}
@@ -5,17 +6,12 @@ use Rattle.walk.specs.Alive.{digit}
 use Rattle.walk.specs.Words.{row}
 use lib.ListN.{length}
 use mathlib.Core.Logic.{_⊎_, inl}
-use mathlib.Core.Path.{_≡_, refl}
+use mathlib.Core.Path.{_≡_}
 use native.Mathlib.Omega.{arith}
-use Prim.Native.Nat.{ℕ, _+_, _-_, _≤_, _<_, _^_}
+use Prim.Native.Nat.{ℕ, _<_, _^_}
 use borrow.Author.Needs.{needs}
 use Rattle.walk.proofs.memory.common.Statement.{statement}
 use Rattle.walk.proofs.memory.common.Tie as tie
-use Rattle.walk.proofs.memory.common.Reads as reads
-use Rattle.walk.proofs.memory.common.Lts as lts
-use Rattle.walk.proofs.alive.after_top.Reads as after-top-reads
-use Rattle.walk.proofs.alive.top.Reads as top-reads
-use Rattle.walk.proofs.memory.meet.Reads as meet-reads
 
 abbrev Inv-loop : tie.InvT-loop
 Inv-loop cuts alive m₀ x₀ m x = (x < 2 ^ 64) × (x < 2 ^ length cuts) × ((j : ℕ) → j < 64 → digit j alive ≡ 1 → (digit j x ≡ 1) ⊎ Lies m (row cuts j))
@@ -23,35 +19,27 @@ Inv-loop cuts alive m₀ x₀ m x = (x < 2 ^ 64) × (x < 2 ^ length cuts) × ((j
 abbrev μ-loop : tie.MeasureT-loop
 μ-loop cuts alive m₀ x₀ m x = x
 
--- src/memory.rt:55:5
 loop-holds : tie.Need-loop-holds Inv-loop μ-loop
 loop-holds c = (search needs, search needs, λ j h d. inl d)
 
--- src/memory.rt:56:13
 top-requires : tie.Need-top-requires Inv-loop μ-loop
 top-requires c κs = search needs
 
--- src/memory.rt:57:19
 mul-cut : tie.Need-mul-cut Inv-loop μ-loop
 mul-cut c = search needs
 
--- src/memory.rt:57:19
 shared-slice-copy-out-cut : tie.Need-shared-slice-copy-out-cut Inv-loop μ-loop
 shared-slice-copy-out-cut c = alive-top _ _ _ (c .before .before .loop .inv .1) (c .top .ensures .2)
 
--- src/memory.rt:58:9
 meet-requires : tie.Need-meet-requires Inv-loop μ-loop
 meet-requires c κs = search needs
 
--- src/memory.rt:59:9
 after-top-requires : tie.Need-after-top-requires Inv-loop μ-loop
 after-top-requires c κs = search needs
 
--- src/memory.rt:55:5
 loop-less : tie.Need-loop-less Inv-loop μ-loop
 loop-less c = search needs
 
--- src/memory.rt:55:5
 loop-again : tie.Need-loop-again Inv-loop μ-loop
 loop-again c =
     let t = c .before .before .before .before .before in
@@ -62,7 +50,6 @@ loop-again c =
       common-turn (g .cuts .now) (g .alive) (at .loop .x) _ (t .top .result) (at .loop .m) _ (t .top .ensures .1) (t .top .ensures .2) (c .after-top .ensures) (c .before .meet .ensures) (at .loop .inv .2),
     )
 
--- src/memory.rt:49:1
 returns : tie.Need-returns Inv-loop μ-loop
 returns c = common-end (c .before .before .args .cuts .now) (c .before .before .args .alive) (c .before .loop .x) (c .before .loop .m) (search needs) (c .before .loop .inv .2)
 

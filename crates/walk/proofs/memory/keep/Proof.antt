@@ -1,44 +1,32 @@
+-- `walk::memory::keep` meets its contract. Assumes nothing.
 use Rattle.walk.proofs.Slots.{keeps-right}
-use Prim.Native.Nat.{_<_, _^_}
 use borrow.Author.Needs.{needs}
 use Rattle.walk.proofs.memory.keep.Statement.{statement}
 use Rattle.walk.proofs.memory.keep.Tie as tie
-use Rattle.walk.proofs.memory.keep.Reads as reads
-use Rattle.walk.proofs.memory.keep.Lts as lts
-use Rattle.walk.proofs.memory.common.Reads as common-reads
-use Rattle.walk.proofs.memory.slot.Reads as slot-reads
 
--- src/memory.rt:87:21
 common-requires : tie.Need-common-requires
 common-requires c κs = search needs
 
--- src/memory.rt:88:24
 slot-requires : tie.Need-slot-requires
 slot-requires c κs = search needs
 
--- src/memory.rt:88:13
 mul-t15 : tie.Need-mul-t15
 mul-t15 c = search needs
 
--- src/memory.rt:88:13
 slice-set-from-slots : tie.Need-slice-set-from-slots
 slice-set-from-slots c = search needs
 
--- src/memory.rt:81:1
 same-length : tie.Need-same-length
 same-length c = search needs
 
--- src/memory.rt:81:1
 returns : tie.Need-returns
 returns c =
     let st = c .before .before .before .before .before in
     keeps-right (st .args .cuts .now) (st .args .slots .now) (st .args .near .now) _ _ (st .args .e) (st .args .alive) (st .args .count) (search needs) (c .before .before .common .ensures) (c .slot .ensures)
 
--- src/memory.rt:81:1
 returns-2 : tie.Need-returns-2
 returns-2 c = λ m n a f. m
 
--- src/memory.rt:81:1
 returns-3 : tie.Need-returns-3
 returns-3 c = λ m n a f. m
 

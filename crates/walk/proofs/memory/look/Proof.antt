@@ -1,15 +1,14 @@
+-- `walk::memory::look` meets its contract. Assumes nothing.
 use Rattle.walk.proofs.Slots.{look-turn, recalls-right}
 use lib.Bits.{bitOr}
 use lib.ListN.{getD, length}
 use mathlib.Core.List.{[]}
-use mathlib.Core.Path.{_≡_, refl}
+use mathlib.Core.Path.{_≡_}
 use native.Mathlib.Omega.{arith}
 use Prim.Native.Nat.{ℕ, _+_, _-_, _≤_, _<_}
 use borrow.Author.Needs.{needs}
 use Rattle.walk.proofs.memory.look.Statement.{statement}
 use Rattle.walk.proofs.memory.look.Tie as tie
-use Rattle.walk.proofs.memory.look.Reads as reads
-use Rattle.walk.proofs.memory.look.Lts as lts
 
 abbrev Inv-loop : tie.InvT-loop
 Inv-loop slots e alive near differ₀ w₀ differ w =
@@ -18,106 +17,81 @@ Inv-loop slots e alive near differ₀ w₀ differ w =
 abbrev μ-loop : tie.MeasureT-loop
 μ-loop slots e alive near differ₀ w₀ differ w = 10 - w
 
--- src/memory.rt:24:9
 returns : tie.Need-returns Inv-loop μ-loop
 returns c = λ h. absurd (omega arith)
 
--- src/memory.rt:26:8
 mul-if2 : tie.Need-mul-if2 Inv-loop μ-loop
 mul-if2 c = search needs
 
--- src/memory.rt:26:8
 index-1-if2 : tie.Need-index-1-if2 Inv-loop μ-loop
 index-1-if2 c = search needs
 
--- src/memory.rt:26:8
 index-2-if2 : tie.Need-index-2-if2 Inv-loop μ-loop
 index-2-if2 c = search needs
 
--- src/memory.rt:27:9
 returns-2 : tie.Need-returns-2 Inv-loop μ-loop
 returns-2 c = λ h. absurd (omega arith)
 
--- src/memory.rt:31:5
 loop-holds : tie.Need-loop-holds Inv-loop μ-loop
 loop-holds c = (omega arith, omega arith, λ z v h. absurd (omega arith))
 
--- src/memory.rt:32:20
 mul-differ : tie.Need-mul-differ Inv-loop μ-loop
 mul-differ c = search needs
 
--- src/memory.rt:32:20
 element-copy-out-differ : tie.Need-element-copy-out-differ Inv-loop μ-loop
 element-copy-out-differ c = search needs
 
--- src/memory.rt:32:39
 add-differ : tie.Need-add-differ Inv-loop μ-loop
 add-differ c = search needs
 
--- src/memory.rt:32:30
 mul-differ-2 : tie.Need-mul-differ-2 Inv-loop μ-loop
 mul-differ-2 c = search needs
 
--- src/memory.rt:32:30
 mul-differ-3 : tie.Need-mul-differ-3 Inv-loop μ-loop
 mul-differ-3 c = search needs
 
--- src/memory.rt:32:30
 index-1-differ : tie.Need-index-1-differ Inv-loop μ-loop
 index-1-differ c = search needs
 
--- src/memory.rt:32:30
 index-2-differ : tie.Need-index-2-differ Inv-loop μ-loop
 index-2-differ c = search needs
 
--- src/memory.rt:32:50
 mul-differ-4 : tie.Need-mul-differ-4 Inv-loop μ-loop
 mul-differ-4 c = search needs
 
--- src/memory.rt:32:50
 mul-differ-5 : tie.Need-mul-differ-5 Inv-loop μ-loop
 mul-differ-5 c = search needs
 
--- src/memory.rt:32:50
 index-1-differ-2 : tie.Need-index-1-differ-2 Inv-loop μ-loop
 index-1-differ-2 c = search needs
 
--- src/memory.rt:32:50
 index-2-differ-2 : tie.Need-index-2-differ-2 Inv-loop μ-loop
 index-2-differ-2 c = search needs
 
--- src/memory.rt:33:9
 add-w : tie.Need-add-w Inv-loop μ-loop
 add-w c = search needs
 
--- src/memory.rt:31:5
 loop-less : tie.Need-loop-less Inv-loop μ-loop
 loop-less c = search needs
 
--- src/memory.rt:31:5
 loop-again : tie.Need-loop-again Inv-loop μ-loop
 loop-again c =
     let at = c .before .before .before .before in
     let g = at .before .before .before .before .args in
     (omega arith, at .loop .inv .1, look-turn (g .near .now) (getD (g .slots .now) (g .e) []) (at .loop .w) (at .loop .differ) (at .loop .inv .2))
 
--- src/memory.rt:36:9
 returns-3 : tie.Need-returns-3 Inv-loop μ-loop
 returns-3 c = λ h. absurd (omega arith)
 
--- src/memory.rt:38:5
 mul-result : tie.Need-mul-result Inv-loop μ-loop
 mul-result c = search needs
 
--- src/memory.rt:38:5
 index-1-result : tie.Need-index-1-result Inv-loop μ-loop
 index-1-result c = search needs
 
--- src/memory.rt:38:5
 index-2-result : tie.Need-index-2-result Inv-loop μ-loop
 index-2-result c = search needs
 
--- src/memory.rt:20:1
 returns-4 : tie.Need-returns-4 Inv-loop μ-loop
 returns-4 c =
     let at = c .before .before .before in

@@ -1,3 +1,4 @@
+-- `walk::memory::meet` meets its contract. Assumes nothing.
 use Rattle.walk.proofs.Slots.{met-turn}
 use lib.Bits.{bitAnd}
 use lib.ListN.{getD}
@@ -7,8 +8,6 @@ use Prim.Native.Nat.{ℕ, _-_, _≤_, _<_}
 use borrow.Author.Needs.{needs}
 use Rattle.walk.proofs.memory.meet.Statement.{statement}
 use Rattle.walk.proofs.memory.meet.Tie as tie
-use Rattle.walk.proofs.memory.meet.Reads as reads
-use Rattle.walk.proofs.memory.meet.Lts as lts
 
 abbrev Inv-loop : tie.InvT-loop
 Inv-loop a₀ b w₀ a w =
@@ -17,50 +16,39 @@ Inv-loop a₀ b w₀ a w =
 abbrev μ-loop : tie.MeasureT-loop
 μ-loop a₀ b w₀ a w = 10 - w
 
--- src/memory.rt:42:5
 loop-holds : tie.Need-loop-holds Inv-loop μ-loop
 loop-holds c = (omega arith, λ v h. absurd (omega arith), λ v h. refl)
 
--- src/memory.rt:43:16
 mul-a : tie.Need-mul-a Inv-loop μ-loop
 mul-a c = search needs
 
--- src/memory.rt:43:16
 element-copy-out-a : tie.Need-element-copy-out-a Inv-loop μ-loop
 element-copy-out-a c = search needs
 
--- src/memory.rt:43:23
 mul-a-2 : tie.Need-mul-a-2 Inv-loop μ-loop
 mul-a-2 c = search needs
 
--- src/memory.rt:43:23
 element-copy-out-a-2 : tie.Need-element-copy-out-a-2 Inv-loop μ-loop
 element-copy-out-a-2 c = search needs
 
--- src/memory.rt:43:9
 mul-a-3 : tie.Need-mul-a-3 Inv-loop μ-loop
 mul-a-3 c = search needs
 
--- src/memory.rt:43:9
 element-write-a : tie.Need-element-write-a Inv-loop μ-loop
 element-write-a c = search needs
 
--- src/memory.rt:44:9
 add-w : tie.Need-add-w Inv-loop μ-loop
 add-w c = search needs
 
--- src/memory.rt:42:5
 loop-less : tie.Need-loop-less Inv-loop μ-loop
 loop-less c = search needs
 
--- src/memory.rt:42:5
 loop-again : tie.Need-loop-again Inv-loop μ-loop
 loop-again c =
     let at = c .before .before .before in
     let t = met-turn (at .before .args .a .now) (at .before .args .b .now) (at .loop .a) (at .loop .w) (at .loop .inv .1) (at .loop .inv .2) in
     (omega arith, t .0, t .1)
 
--- src/memory.rt:38:1
 returns : tie.Need-returns Inv-loop μ-loop
 returns c = λ w h. c .before .loop .inv .1 w (omega (arith, c .loop-test .left))
 

@@ -1,12 +1,11 @@
+-- `walk::memory::slot` meets its contract. Assumes nothing.
 use Rattle.walk.proofs.Slots.{Filled, filled-turn, slot-right}
 use mathlib.Core.Path.{_≡_, refl, subst}
 use native.Mathlib.Omega.{arith}
-use Prim.Native.Nat.{ℕ, _+_, _-_, _≤_, _<_}
+use Prim.Native.Nat.{_-_, _≤_}
 use borrow.Author.Needs.{needs}
 use Rattle.walk.proofs.memory.slot.Statement.{statement}
 use Rattle.walk.proofs.memory.slot.Tie as tie
-use Rattle.walk.proofs.memory.slot.Reads as reads
-use Rattle.walk.proofs.memory.slot.Lts as lts
 
 abbrev Inv-loop : tie.InvT-loop
 Inv-loop near m alive count s₀ w₀ s w = (w ≤ 10) × Filled near m s w
@@ -14,77 +13,59 @@ Inv-loop near m alive count s₀ w₀ s w = (w ≤ 10) × Filled near m s w
 abbrev μ-loop : tie.MeasureT-loop
 μ-loop near m alive count s₀ w₀ s w = 10 - w
 
--- src/memory.rt:76:5
 loop-holds : tie.Need-loop-holds Inv-loop μ-loop
 loop-holds c = (omega arith, record { long = refl; own = λ v h. absurd (omega arith); shared = λ v h. absurd (omega arith) })
 
--- src/memory.rt:77:16
 mul-s : tie.Need-mul-s Inv-loop μ-loop
 mul-s c = search needs
 
--- src/memory.rt:77:16
 element-copy-out-s : tie.Need-element-copy-out-s Inv-loop μ-loop
 element-copy-out-s c = search needs
 
--- src/memory.rt:77:26
 mul-s-2 : tie.Need-mul-s-2 Inv-loop μ-loop
 mul-s-2 c = search needs
 
--- src/memory.rt:77:26
 element-copy-out-s-2 : tie.Need-element-copy-out-s-2 Inv-loop μ-loop
 element-copy-out-s-2 c = search needs
 
--- src/memory.rt:77:9
 mul-s-3 : tie.Need-mul-s-3 Inv-loop μ-loop
 mul-s-3 c = search needs
 
--- src/memory.rt:77:9
 array-write-s : tie.Need-array-write-s Inv-loop μ-loop
 array-write-s c = search needs
 
--- src/memory.rt:78:21
 mul-s-4 : tie.Need-mul-s-4 Inv-loop μ-loop
 mul-s-4 c = search needs
 
--- src/memory.rt:78:21
 element-copy-out-s-3 : tie.Need-element-copy-out-s-3 Inv-loop μ-loop
 element-copy-out-s-3 c = search needs
 
--- src/memory.rt:78:11
 add-s : tie.Need-add-s Inv-loop μ-loop
 add-s c = search needs
 
--- src/memory.rt:78:9
 mul-s-5 : tie.Need-mul-s-5 Inv-loop μ-loop
 mul-s-5 c = search needs
 
--- src/memory.rt:78:9
 array-write-s-2 : tie.Need-array-write-s-2 Inv-loop μ-loop
 array-write-s-2 c = search needs
 
--- src/memory.rt:79:9
 add-w : tie.Need-add-w Inv-loop μ-loop
 add-w c = search needs
 
--- src/memory.rt:76:5
 loop-less : tie.Need-loop-less Inv-loop μ-loop
 loop-less c = search needs
 
--- src/memory.rt:76:5
 loop-again : tie.Need-loop-again Inv-loop μ-loop
 loop-again c =
     let at = c .before .before .before .before in
     (omega arith, filled-turn (at .before .args .near .now) (at .before .args .m .now) (at .loop .s) (at .loop .w) (c .before .before .before .loop-test .taken) (at .loop .inv .1))
 
--- src/memory.rt:81:5
 array-write-s-3 : tie.Need-array-write-s-3 Inv-loop μ-loop
 array-write-s-3 c = search needs
 
--- src/memory.rt:82:5
 array-write-s-4 : tie.Need-array-write-s-4 Inv-loop μ-loop
 array-write-s-4 c = search needs
 
--- src/memory.rt:71:1
 returns : tie.Need-returns Inv-loop μ-loop
 returns c =
     let at = c .before in

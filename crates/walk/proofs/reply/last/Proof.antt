@@ -1,3 +1,4 @@
+-- `walk::reply::last` meets its contract. Assumes nothing.
 use Rattle.walk.proofs.Settle.{settle-le, settle-none}
 use Rattle.walk.specs.Words.{wide}
 use Rattle.walk.specs.Telling.{survives}
@@ -7,19 +8,13 @@ use native.Mathlib.Omega.{arith}
 use borrow.Author.Needs.{needs}
 use Rattle.walk.proofs.reply.last.Statement.{statement}
 use Rattle.walk.proofs.reply.last.Tie as tie
-use Rattle.walk.proofs.reply.last.Reads as reads
-use Rattle.walk.proofs.reply.last.Lts as lts
-use Rattle.walk.proofs.allowance.Allowance.spend.Reads as spend-reads
 
--- src/reply.rt:48:9
 returns : tie.Need-returns
 returns c = let st = c .before .before in sym (settle-none (st .args .have) (survives (wide (st .args .piece))) (c .if1 .taken) (omega arith))
 
--- src/reply.rt:55:20
 spend-requires : tie.Need-spend-requires
 spend-requires c κs = search needs
 
--- src/reply.rt:43:1
 returns-2 : tie.Need-returns-2
 returns-2 c =
     let st = c .before .before .before in

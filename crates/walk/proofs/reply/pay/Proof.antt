@@ -1,40 +1,30 @@
+-- `walk::reply::pay` meets its contract. Assumes nothing.
 use Rattle.walk.proofs.Paying.{pays-short, pays-whole}
-use native.Mathlib.Omega.{arith}
 use borrow.Author.Needs.{needs}
 use Rattle.walk.proofs.reply.pay.Statement.{statement}
 use Rattle.walk.proofs.reply.pay.Tie as tie
-use Rattle.walk.proofs.reply.pay.Reads as reads
-use Rattle.walk.proofs.reply.pay.Lts as lts
 
--- src/reply.rt:23:9
 cast-if1 : tie.Need-cast-if1
 cast-if1 c = search needs
 
--- src/reply.rt:27:24
 add-t6 : tie.Need-add-t6
 add-t6 c = search needs
 
--- src/reply.rt:24:9
 returns : tie.Need-returns
 returns c = let st = c .before .before .before in pays-short (st .args .have) (st .args .k) (search needs)
 
--- src/reply.rt:35:31
 cast-t9 : tie.Need-cast-t9
 cast-t9 c = search needs
 
--- src/reply.rt:35:19
 sub-t10 : tie.Need-sub-t10
 sub-t10 c = search needs
 
--- src/reply.rt:36:33
 cast-t11 : tie.Need-cast-t11
 cast-t11 c = search needs
 
--- src/reply.rt:36:20
 add-t12 : tie.Need-add-t12
 add-t12 c = search needs
 
--- src/reply.rt:19:1
 returns-2 : tie.Need-returns-2
 returns-2 c = let st = c .before .before .before .before in pays-whole (st .args .have) (st .args .k) (search needs)
 

@@ -1,5 +1,5 @@
+-- `walk::table::alive_of` meets its contract. Assumes nothing.
 use Rattle.walk.proofs.Entering.{part-row}
-use Rattle.walk.specs.Opening.{bit}
 use Rattle.model.specs.Cube.{shares}
 use mathlib.Core.Bool.{true, false}
 use mathlib.Core.Path.{ap}
@@ -14,14 +14,10 @@ use mathlib.Core.Logic.{⊎-elim}
 use mathlib.Core.Path.{_≡_, refl, sym, subst, _∙_}
 use native.Mathlib.Omega.{arith}
 use native.Mathlib.Nat.{sub-zero}
-use Prim.Native.Nat.{ℕ, suc, _+_, _-_, _*_, _≤_, _<_, _^_}
+use Prim.Native.Nat.{suc, _+_, _-_, _*_, _≤_}
 use borrow.Author.Needs.{needs}
 use Rattle.walk.proofs.table.alive_of.Statement.{statement}
 use Rattle.walk.proofs.table.alive_of.Tie as tie
-use Rattle.walk.proofs.table.alive_of.Reads as reads
-use Rattle.walk.proofs.table.alive_of.Lts as lts
-use Rattle.cube.proofs.meets.Reads as meets-reads
-use Rattle.walk.proofs.alive.digit_of.Reads as digit-of-reads
 
 abbrev Inv-loop : tie.InvT-loop
 Inv-loop piece s at n x₀ m₀ here₀ x m here =
@@ -30,46 +26,36 @@ Inv-loop piece s at n x₀ m₀ here₀ x m here =
 abbrev μ-loop : tie.MeasureT-loop
 μ-loop piece s at n x₀ m₀ here₀ x m here = n - m
 
--- src/table.rt:52:25
 mul-here : tie.Need-mul-here Inv-loop μ-loop
 mul-here c = search needs
 
--- src/table.rt:52:20
 add-here : tie.Need-add-here Inv-loop μ-loop
 add-here c = search needs
 
--- src/table.rt:53:5
 loop-holds : tie.Need-loop-holds Inv-loop μ-loop
 loop-holds c = let st = c .before .before in (st .pre .0, omega arith, st .pre .1, rw sub-zero refl, (omega arith, λ m h. absurd (omega arith)))
 
 step : (c : tie.In-loop Inv-loop μ-loop) → let at = c .before in let g = at .before .before .before .args in Down (g .at) (g .n) (at .loop .m) (length (g .piece .now)) (at .loop .here) (length (g .s .now))
 step c = let v = c .before .loop .inv in down _ _ _ _ _ _ (c .loop-test .taken) (v .3) (v .2)
 
--- src/table.rt:55:9
 sub-here : tie.Need-sub-here Inv-loop μ-loop
 sub-here c = step c .there
 
--- src/table.rt:56:25
 sub-meets : tie.Need-sub-meets Inv-loop μ-loop
 sub-meets c = search needs
 
--- src/table.rt:56:25
 part-meets-start : tie.Need-part-meets-start Inv-loop μ-loop
 part-meets-start c = search needs
 
--- src/table.rt:56:25
 part-meets-end : tie.Need-part-meets-end Inv-loop μ-loop
 part-meets-end c = omega (arith, step c .inside, step c .there)
 
--- src/table.rt:56:12
 meets-requires : tie.Need-meets-requires Inv-loop μ-loop
 meets-requires c κs = search needs
 
--- src/table.rt:57:21
 digit-of-requires : tie.Need-digit-of-requires Inv-loop μ-loop
 digit-of-requires c κs = search needs
 
--- src/table.rt:57:17
 add-x : tie.Need-add-x Inv-loop μ-loop
 add-x c =
     let lp = c .before .before .before .before in
@@ -78,15 +64,12 @@ add-x c =
     let e : suc (at .loop .m) ≤ 64 = omega (arith, lp .loop-test .taken, v .0) in
     omega (arith, c .digit-of .ensures, v .4 .0, pow-mono e, pow-double (at .loop .m))
 
--- src/table.rt:59:9
 add-m : tie.Need-add-m Inv-loop μ-loop
 add-m c = search needs
 
--- src/table.rt:53:5
 loop-less : tie.Need-loop-less Inv-loop μ-loop
 loop-less c = search needs
 
--- src/table.rt:53:5
 loop-again : tie.Need-loop-again Inv-loop μ-loop
 loop-again c =
     let ms = c .before in
@@ -107,7 +90,6 @@ loop-again c =
           (c .if1 .came),
     )
 
--- src/table.rt:46:1
 returns : tie.Need-returns Inv-loop μ-loop
 returns c =
     let at = c .before in

@@ -1,3 +1,4 @@
+-- `walk::table::enter` meets its contract. Assumes nothing.
 use Rattle.walk.proofs.Entering.{fresh}
 use Rattle.walk.proofs.Entering.{free-words, enter-fits, enter-turn, enter-end, agree-turn}
 use Rattle.walk.proofs.Narrowing.{Opened, opened, took-cube, later-first}
@@ -9,17 +10,12 @@ use Rattle.model.specs.Cube.{none, free}
 use lib.ListN.{length, getD, set, length-set}
 use Rattle.format.specs.Bytes.{codeOf}
 use mathlib.Core.Logic.{_⊎_, inl}
-use mathlib.Core.Path.{_≡_, refl, sym, _∙_}
+use mathlib.Core.Path.{_≡_, refl, _∙_}
 use native.Mathlib.Omega.{arith}
-use Prim.Native.Nat.{ℕ, _+_, _-_, _*_, _/_, _≤_, _<_, _^_}
+use Prim.Native.Nat.{ℕ, _+_, _-_, _*_, _/_, _<_, _^_}
 use borrow.Author.Needs.{needs}
 use Rattle.walk.proofs.table.enter.Statement.{statement}
 use Rattle.walk.proofs.table.enter.Tie as tie
-use Rattle.walk.proofs.table.enter.Reads as reads
-use Rattle.walk.proofs.table.enter.Lts as lts
-use Rattle.walk.proofs.words.given.Reads as given-reads
-use Rattle.walk.proofs.words.next_open.Reads as next-open-reads
-use Rattle.walk.proofs.words.number_in.Reads as number-in-reads
 
 abbrev Inv-loop : tie.InvT-loop
 Inv-loop against₀ cut one near₀ i₀ against near i =
@@ -53,41 +49,32 @@ later c =
     let at = num .before .before in
     later-first _ _ _ _ _ (at .loop .inv .2) (num .before .loop-test .taken) (at-open num .fixed) (agreed c)
 
--- src/table.rt:21:9
 next-open-requires : tie.Need-next-open-requires Inv-loop μ-loop
 next-open-requires c κs = search needs
 
--- src/table.rt:22:5
 loop-holds : tie.Need-loop-holds Inv-loop μ-loop
 loop-holds c =
     let st = c .before .before .before in
     (st .pre .0, refl, c .next-open .ensures, fresh (st .args .against .now) (st .args .one), λ j h. inl (free-words j h), st .pre .0, st .pre .1)
 
--- src/table.rt:24:13
 number-in-requires : tie.Need-number-in-requires Inv-loop μ-loop
 number-in-requires c κs = search needs
 
--- src/table.rt:25:17
 mul-k : tie.Need-mul-k Inv-loop μ-loop
 mul-k c = search needs
 
--- src/table.rt:25:26
 sub-k : tie.Need-sub-k Inv-loop μ-loop
 sub-k c = omega (arith, at-open c .most)
 
--- src/table.rt:25:17
 add-k : tie.Need-add-k Inv-loop μ-loop
 add-k c = search needs
 
--- src/table.rt:26:22
 mul-against : tie.Need-mul-against Inv-loop μ-loop
 mul-against c = search needs
 
--- src/table.rt:26:22
 slice-read-against : tie.Need-slice-read-against Inv-loop μ-loop
 slice-read-against c = let o = at-open (c .before) in omega (arith, o .least, o .most, c .before .before .before .loop .inv .0, c .before .before .loop-test .taken)
 
--- src/table.rt:26:22
 add-against : tie.Need-add-against Inv-loop μ-loop
 add-against c =
     let at = c .before .before .before in
@@ -97,43 +84,33 @@ add-against c =
     let k = 2 * at .loop .i + (2 - c .before .number-in .result) in
     omega (arith, enter-fits (g .against .now) (wide (at .loop .near)) (g .one) (at .loop .against) (at .loop .inv .3) (at .loop .i) (c .before .number-in .result) h (o .least) (o .most) (o .unfixed), at .loop .inv .6 k (omega (arith, h, o .least, o .most)))
 
--- src/table.rt:26:9
 mul-against-2 : tie.Need-mul-against-2 Inv-loop μ-loop
 mul-against-2 c = search needs
 
--- src/table.rt:26:9
 slice-write-against : tie.Need-slice-write-against Inv-loop μ-loop
 slice-write-against c = let o = at-open (c .before) in omega (arith, o .least, o .most, c .before .before .before .loop .inv .0, c .before .before .loop-test .taken)
 
--- src/table.rt:27:25
 mul-given : tie.Need-mul-given Inv-loop μ-loop
 mul-given c = search needs
 
--- src/table.rt:27:25
 array-read-given : tie.Need-array-read-given Inv-loop μ-loop
 array-read-given c = search needs
 
--- src/table.rt:27:19
 given-requires : tie.Need-given-requires Inv-loop μ-loop
 given-requires c κs = let o = at-open (c .before) in (omega arith, omega (arith, o .most), o .place)
 
--- src/table.rt:27:9
 mul-near : tie.Need-mul-near Inv-loop μ-loop
 mul-near c = search needs
 
--- src/table.rt:27:9
 array-write-near : tie.Need-array-write-near Inv-loop μ-loop
 array-write-near c = search needs
 
--- src/table.rt:28:9
 next-open-requires-2 : tie.Need-next-open-requires-2 Inv-loop μ-loop
 next-open-requires-2 c κs = (omega (arith, c .before .before .before .before .loop-test .taken), omega (arith, later (c .before)))
 
--- src/table.rt:22:5
 loop-less : tie.Need-loop-less Inv-loop μ-loop
 loop-less c = omega (arith, c .next-open2 .ensures, later (c .before .before), c .before .before .before .before .before .loop-test .taken)
 
--- src/table.rt:22:5
 loop-again : tie.Need-loop-again Inv-loop μ-loop
 loop-again c =
     let gv = c .before .before in
@@ -152,11 +129,9 @@ loop-again c =
       v .6,
     )
 
--- src/table.rt:16:1
 same-length : tie.Need-same-length Inv-loop μ-loop
 same-length c = omega (arith, c .before .loop .inv .0, c .before .loop .inv .5)
 
--- src/table.rt:16:1
 returns : tie.Need-returns Inv-loop μ-loop
 returns c =
     let at = c .before in

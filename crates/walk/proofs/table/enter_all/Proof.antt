@@ -1,19 +1,16 @@
+-- `walk::table::enter_all` meets its contract. Assumes nothing.
 use Rattle.walk.proofs.Entering.{EnteredAll, entered-none, entered-more}
 use Rattle.walk.proofs.Meeting.{pow-double}
 use Rattle.walk.specs.Alive.{Against}
 use Rattle.walk.specs.Words.{row}
 use lib.Pow.{pow-mono}
 use lib.ListN.{length}
-use mathlib.Core.Path.{_≡_, refl, sym, subst, _∙_}
+use mathlib.Core.Path.{_≡_, subst}
 use native.Mathlib.Omega.{arith}
-use Prim.Native.Nat.{ℕ, suc, _+_, _-_, _*_, _≤_, _<_, _^_}
+use Prim.Native.Nat.{suc, _-_, _≤_}
 use borrow.Author.Needs.{needs}
 use Rattle.walk.proofs.table.enter_all.Statement.{statement}
 use Rattle.walk.proofs.table.enter_all.Tie as tie
-use Rattle.walk.proofs.table.enter_all.Reads as reads
-use Rattle.walk.proofs.table.enter_all.Lts as lts
-use Rattle.walk.proofs.alive.digit_of.Reads as digit-of-reads
-use Rattle.walk.proofs.table.enter.Reads as enter-reads
 
 abbrev Inv-loop : tie.InvT-loop
 Inv-loop against₀ cuts n m₀ against m = (m ≤ n) × (n ≤ 64) × (n ≤ length cuts) × (length against₀ ≡ 640) × EnteredAll cuts m against
@@ -21,23 +18,18 @@ Inv-loop against₀ cuts n m₀ against m = (m ≤ n) × (n ≤ 64) × (n ≤ le
 abbrev μ-loop : tie.MeasureT-loop
 μ-loop against₀ cuts n m₀ against m = n - m
 
--- src/table.rt:38:5
 loop-holds : tie.Need-loop-holds Inv-loop μ-loop
 loop-holds c = let st = c .before in (omega arith, st .pre .1, st .pre .2, st .pre .0, entered-none (st .args .cuts .now) (st .args .against .now) (st .pre .0) (st .pre .3))
 
--- src/table.rt:39:19
 mul-cut : tie.Need-mul-cut Inv-loop μ-loop
 mul-cut c = search needs
 
--- src/table.rt:39:19
 shared-slice-copy-out-cut : tie.Need-shared-slice-copy-out-cut Inv-loop μ-loop
 shared-slice-copy-out-cut c = search needs
 
--- src/table.rt:40:30
 digit-of-requires : tie.Need-digit-of-requires Inv-loop μ-loop
 digit-of-requires c κs = search needs
 
--- src/table.rt:40:9
 enter-requires : tie.Need-enter-requires Inv-loop μ-loop
 enter-requires c κs =
     let lp = c .before .before .before .before in
@@ -46,15 +38,12 @@ enter-requires c κs =
     let e : suc (at .loop .m) ≤ 64 = omega (arith, lp .loop-test .taken, v .1) in
     (v .4 .long, λ k h. omega (arith, c .digit-of .ensures, v .4 .small k h, pow-mono e, pow-double (at .loop .m)))
 
--- src/table.rt:41:9
 add-m : tie.Need-add-m Inv-loop μ-loop
 add-m c = search needs
 
--- src/table.rt:38:5
 loop-less : tie.Need-loop-less Inv-loop μ-loop
 loop-less c = search needs
 
--- src/table.rt:38:5
 loop-again : tie.Need-loop-again Inv-loop μ-loop
 unfolding row
 loop-again c =
@@ -70,11 +59,9 @@ loop-again c =
       entered-more (g .cuts .now) (at .loop .m) (at .loop .against) _ _ (en .before .digit-of .ensures) (omega (arith, c .before .against .given, v .4 .long)) (en .enter .ensures) (v .4),
     )
 
--- src/table.rt:33:1
 same-length : tie.Need-same-length Inv-loop μ-loop
 same-length c = omega (arith, c .before .loop .inv .3, c .before .loop .inv .4 .long)
 
--- src/table.rt:33:1
 returns : tie.Need-returns Inv-loop μ-loop
 returns c =
     let at = c .before in

@@ -1,32 +1,24 @@
+-- `walk::words::given` meets its contract. Assumes nothing.
 use Rattle.walk.proofs.Digits.{taken-fits, taken-there, given-right}
-use native.Mathlib.Omega.{arith}
 use borrow.Author.Needs.{needs}
 use Rattle.walk.proofs.words.given.Statement.{statement}
 use Rattle.walk.proofs.words.given.Tie as tie
-use Rattle.walk.proofs.words.given.Reads as reads
-use Rattle.walk.proofs.words.given.Lts as lts
 
--- src/words.rt:52:11
 sub-result : tie.Need-sub-result
 sub-result c = search needs
 
--- src/words.rt:52:27
 mul-result : tie.Need-mul-result
 mul-result c = search needs
 
--- src/words.rt:52:22
 sub-result-2 : tie.Need-sub-result-2
 sub-result-2 c = search needs
 
--- src/words.rt:52:10
 shl-result : tie.Need-shl-result
 shl-result c = search needs
 
--- src/words.rt:52:5
 sub-result-3 : tie.Need-sub-result-3
 sub-result-3 c = rw (taken-fits (c .args .k) (c .args .v)) (taken-there (c .args .x) (c .args .k) (c .args .v) (c .pre .2))
 
--- src/words.rt:48:1
 returns : tie.Need-returns
 returns c = rw (taken-fits (c .args .k) (c .args .v)) (given-right (c .args .x) (c .args .k) (c .args .v) (c .pre .0) (c .pre .1) (c .pre .2))
 

@@ -1,15 +1,12 @@
+-- `walk::words::next_open` meets its contract. Assumes nothing.
 use Rattle.walk.proofs.Wide.{open-here, open-passed, open-ended}
 use Rattle.walk.specs.Words.{wide}
 use Rattle.walk.specs.Opening.{firstOpen}
 use native.Mathlib.Omega.{arith}
-use Prim.Native.Nat.{_*_, _-_, _≤_, _^_}
+use Prim.Native.Nat.{_*_, _-_, _≤_}
 use borrow.Author.Needs.{needs}
 use Rattle.walk.proofs.words.next_open.Statement.{statement}
 use Rattle.walk.proofs.words.next_open.Tie as tie
-use Rattle.walk.proofs.words.next_open.Reads as reads
-use Rattle.walk.proofs.words.next_open.Lts as lts
-use Rattle.walk.proofs.words.first_place.Reads as first-place-reads
-use Rattle.walk.proofs.words.open_marks.Reads as open-marks-reads
 
 abbrev Inv-loop : tie.InvT-loop
 Inv-loop near cut from w₀ w = (w ≤ 10) × (32 * w ≤ firstOpen (wide near) (wide cut))
@@ -17,43 +14,33 @@ Inv-loop near cut from w₀ w = (w ≤ 10) × (32 * w ≤ firstOpen (wide near) 
 abbrev μ-loop : tie.MeasureT-loop
 μ-loop near cut from w₀ w = 10 - w
 
--- src/words.rt:29:5
 loop-holds : tie.Need-loop-holds Inv-loop μ-loop
 loop-holds c = search needs
 
--- src/words.rt:30:28
 mul-open-marks : tie.Need-mul-open-marks Inv-loop μ-loop
 mul-open-marks c = search needs
 
--- src/words.rt:30:28
 element-copy-out-open-marks : tie.Need-element-copy-out-open-marks Inv-loop μ-loop
 element-copy-out-open-marks c = search needs
 
--- src/words.rt:30:37
 mul-open-marks-2 : tie.Need-mul-open-marks-2 Inv-loop μ-loop
 mul-open-marks-2 c = search needs
 
--- src/words.rt:30:37
 element-copy-out-open-marks-2 : tie.Need-element-copy-out-open-marks-2 Inv-loop μ-loop
 element-copy-out-open-marks-2 c = search needs
 
--- src/words.rt:30:13
 open-marks-requires : tie.Need-open-marks-requires Inv-loop μ-loop
 open-marks-requires c κs = search needs
 
--- src/words.rt:32:20
 mul-result : tie.Need-mul-result Inv-loop μ-loop
 mul-result c = search needs
 
--- src/words.rt:32:29
 first-place-requires : tie.Need-first-place-requires Inv-loop μ-loop
 first-place-requires c κs = search needs
 
--- src/words.rt:32:20
 add-result : tie.Need-add-result Inv-loop μ-loop
 add-result c = search needs
 
--- src/words.rt:32:13
 returns : tie.Need-returns Inv-loop μ-loop
 returns c =
     let m = c .before .before in
@@ -63,15 +50,12 @@ returns c =
     (open-here (st .args .near .now) (st .args .cut .now) (at .loop .w) (m .before .before .before .loop-test .taken) (at .loop .inv .1) _ (m .open-marks .ensures)
     (c .before .if1 .taken) (search needs))
 
--- src/words.rt:34:9
 add-w : tie.Need-add-w Inv-loop μ-loop
 add-w c = search needs
 
--- src/words.rt:29:5
 loop-less : tie.Need-loop-less Inv-loop μ-loop
 loop-less c = search needs
 
--- src/words.rt:29:5
 loop-again : tie.Need-loop-again Inv-loop μ-loop
 loop-again c =
     let m = c .before in
@@ -79,7 +63,6 @@ loop-again c =
     let st = at .before in
     (omega arith, open-passed (st .args .near .now) (st .args .cut .now) (at .loop .w) (m .before .before .before .loop-test .taken) (at .loop .inv .1) _ (m .open-marks .ensures) (c .if1 .left))
 
--- src/words.rt:24:1
 returns-2 : tie.Need-returns-2 Inv-loop μ-loop
 returns-2 c =
     let at = c .before in

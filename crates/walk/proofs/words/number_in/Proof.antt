@@ -1,37 +1,28 @@
+-- `walk::words::number_in` meets its contract. Assumes nothing.
 use Rattle.walk.specs.Words.{numberIn}
 use native.Mathlib.Nat.{mod-lt}
 use lib.Dec.{lit<}
 use mathlib.Core.Path.{refl}
 use lib.Bits.{and-mask}
-use native.Mathlib.Omega.{arith}
-use Prim.Native.Nat.{_/_}
 use borrow.Author.Needs.{needs}
 use Rattle.walk.proofs.words.number_in.Statement.{statement}
 use Rattle.walk.proofs.words.number_in.Tie as tie
-use Rattle.walk.proofs.words.number_in.Reads as reads
-use Rattle.walk.proofs.words.number_in.Lts as lts
 
--- src/words.rt:44:6
 mul-result : tie.Need-mul-result
 mul-result c = search needs
 
--- src/words.rt:44:6
 element-copy-out-result : tie.Need-element-copy-out-result
 element-copy-out-result c = search needs
 
--- src/words.rt:44:26
 mul-result-2 : tie.Need-mul-result-2
 mul-result-2 c = search needs
 
--- src/words.rt:44:21
 sub-result : tie.Need-sub-result
 sub-result c = search needs
 
--- src/words.rt:44:6
 shr-result : tie.Need-shr-result
 shr-result c = search needs
 
--- src/words.rt:40:1
 returns : tie.Need-returns
 unfolding numberIn
 returns c = rw (and-mask _ 2) (refl, mod-lt _ (lit< tt))
