@@ -6,4 +6,5 @@ pub mod Telling
 pub mod Membership
 pub mod Viewed
 pub mod Onward
+pub mod Stepping
 pub mod Reading

@@ -3,3 +3,4 @@ pub mod Ahead
 pub mod Asked
 pub mod Reader
 pub mod Viewing
+pub mod Stepping
