@@ -1,0 +1,150 @@
+use Prim.Native.Nat.{_*_}
+use native.Mathlib.Omega.{arith}
+use mathlib.Core.Path.{_≡_, refl, sym, ap, _∙_}
+use mathlib.Core.List.{_++_}
+use lib.ListN.{length, take}
+use Rattle.model.specs.Difference.{Region}
+use Rattle.format.specs.Bytes.{cubeLen}
+use Rattle.format.specs.Records.{widthBytes, differencesBytes}
+use Rattle.format.specs.Told.{Told, over}
+use Rattle.algebra.specs.Totals.{total, Counted}
+use Rattle.algebra.proofs.Laying.{behind-back}
+use Rattle.algebra.proofs.Telling.{nothing-back, silent-tells, result-long, result-many, result-few, result-size, result-short, result-written}
+use borrow.Author.Needs.{needs}
+use Rattle.algebra.proofs.result.write_region.Statement.{statement}
+use Rattle.algebra.proofs.result.write_region.Tie as tie
+
+-- the measuring run
+module _ (c : tie.After-run) where
+  abbrev start : tie.Start
+  start = c .before .before .before .before .before .before
+
+  abbrev whole : Region
+  whole = let p = start .args in total (p .operation) (cubeLen (p .w)) (p .s .now) (p .a) (p .t .now) (p .x)
+
+  counted : Counted (cubeLen (start .args .w)) whole (take 0 (start .args .out .now)) (c .run .last .1 .1 .1 .1 .1 .1 .0) (c .run .result)
+  counted = rw (c .before .before .cube-len .ensures) at (c .run .ensures)
+
+  same : c .run .last .1 .1 .1 .1 .1 .1 .0 ++ start .args .out .now ≡ start .args .out .now
+  same = nothing-back (c .run .last .1 .1 .1 .1 .1 .1 .0) (start .args .out .now) (c .run .kept .1 .1 .1 .1 .1 .1 .0)
+
+cube-len-requires : tie.Need-cube-len-requires
+cube-len-requires c κs = search needs
+
+sub-run : tie.Need-sub-run
+sub-run c = search needs
+
+part-run-start : tie.Need-part-run-start
+part-run-start c = search needs
+
+part-run-end : tie.Need-part-run-end
+part-run-end c = search needs
+
+run-requires : tie.Need-run-requires
+run-requires c κs = rw (c .before .cube-len .ensures) (c .before .before .before .before .before .pre .1)
+
+said-requires : tie.Need-said-requires
+said-requires c κs = search needs
+
+same-length : tie.Need-same-length
+same-length c = search needs
+
+returns : tie.Need-returns
+returns c =
+    let d = c .before .before .before .before in
+    let p = start d .args in
+    silent-tells (c .said .ensures) (same d) (result-long (p .w) (whole d) _ _ (d .run .result) (length (p .out .now)) (counted d) (c .before .if1 .taken))
+
+said-requires-2 : tie.Need-said-requires-2
+said-requires-2 c κs = search needs
+
+same-length-2 : tie.Need-same-length-2
+same-length-2 c = search needs
+
+returns-2 : tie.Need-returns-2
+returns-2 c =
+    let d = c .before .before .before .before .before .before in
+    let p = start d .args in
+    silent-tells (c .said2 .ensures) (same d) (result-many (p .w) (whole d) _ _ (d .run .result) (length (p .out .now)) (counted d) (c .before .before .before .if1 .left) (c .before .if2 .taken))
+
+add-size : tie.Need-add-size
+add-size c = search needs
+
+said-requires-3 : tie.Need-said-requires-3
+said-requires-3 c κs = search needs
+
+same-length-3 : tie.Need-same-length-3
+same-length-3 c = search needs
+
+returns-3 : tie.Need-returns-3
+returns-3 c =
+    let d = c .before .before .before .before .before .before .before .before in
+    let p = start d .args in
+    silent-tells (c .said3 .ensures) (same d) (result-short (p .w) (whole d) _ _ (d .run .result) (length (p .out .now)) (counted d) (c .before .before .before .before .before .if1 .left) (c .before .before .before .if2 .left) (rw (same d) at (c .before .if3 .taken)))
+
+put-width-requires : tie.Need-put-width-requires
+put-width-requires c κs = search needs
+
+sub-run-2 : tie.Need-sub-run-2
+sub-run-2 c = search needs
+
+part-run-start-2 : tie.Need-part-run-start-2
+part-run-start-2 c = search needs
+
+part-run-end-2 : tie.Need-part-run-end-2
+part-run-end-2 c = search needs
+
+run-requires-2 : tie.Need-run-requires-2
+run-requires-2 c κs = rw (c .before .before .before .before .before .before .before .before .before .before .before .before .before .before .cube-len .ensures) (c .before .before .before .before .before .before .before .before .before .before .before .before .before .before .before .before .before .before .pre .1)
+
+wrote-requires : tie.Need-wrote-requires
+wrote-requires c κs = search needs
+
+same-length-4 : tie.Need-same-length-4
+same-length-4 c = search needs
+
+returns-4 : tie.Need-returns-4
+returns-4 c =
+    let d = c .before .before .before .before .before .before .before .before .before .before .before .before .before .before .before .before in
+    let p = start d .args in
+    let n = c .before .before .before .before .before .before .before .before .before .before .before .before .before .if1 .left in
+    let f = c .before .before .before .before .before .before .before .before .before .before .before .if2 .left in
+    let r = whole d in
+    let room = rw (same d) at (c .before .before .before .before .before .before .before .before .before .if3 .left) in
+    let told = result-written (p .w) r _ _ (d .run .result) (length (p .out .now)) (counted d) n f room in
+    let again = rw (d .before .before .cube-len .ensures) at (c .before .before .before .run2 .ensures) in
+    let z = result-size (p .w) r _ _ (d .run .result) (length (p .out .now)) (counted d) n f in
+    let few = result-few (p .w) r _ _ (d .run .result) (length (p .out .now)) (counted d) n f in
+    let out = rw (same d) at (c .before .before .before .before .before .before .before .put-width .ensures) in (
+      c .wrote .ensures ∙ ap (λ (x : Told). x .answer) told,
+      behind-back (p .out .now) (widthBytes (p .w)) (differencesBytes (4 * cubeLen (p .w)) r) _ (c .before .before .before .before .before .before .before .put-width .last .0) 6 _ refl out refl (omega (arith, z, room)) (λ h. again .written (again .long ∙ sym (counted d .long) ∙ n) few h)
+          ∙ ap (λ (x : Told). over (p .out .now) (x .bytes)) told,
+    )
+
+pub write-region-spec : {M : Type 1} → statement M
+write-region-spec =
+    tie.close
+    (tie.spec
+    cube-len-requires
+    sub-run
+    part-run-start
+    part-run-end
+    run-requires
+    said-requires
+    same-length
+    returns
+    said-requires-2
+    same-length-2
+    returns-2
+    add-size
+    said-requires-3
+    same-length-3
+    returns-3
+    put-width-requires
+    sub-run-2
+    part-run-start-2
+    part-run-end-2
+    run-requires-2
+    wrote-requires
+    same-length-4
+    returns-4)

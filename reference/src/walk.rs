@@ -1,0 +1,75 @@
+//! The walk over pieces, its allowance and its ceiling.
+
+use crate::answer::Answer;
+use crate::cube::{opposite, Cube};
+use crate::difference::Difference;
+use crate::header::Header;
+
+/// What is allowed and what is spent of it, in pieces.
+struct Allowance {
+    allowed: u32,
+    spent: u32,
+}
+
+/// Why a walk stops before its end.
+enum Stop {
+    Member(Header),
+    Undecided,
+}
+
+impl Allowance {
+    fn spend(&mut self) -> Result<(), Stop> {
+        if self.spent == self.allowed {
+            return Err(Stop::Undecided);
+        }
+        self.spent += 1;
+        Ok(())
+    }
+}
+
+/// Walks the differences one after another on one allowance, to the first member.
+/// The answer is 1 (empty), 2 with a header, or 3.
+pub fn walk<'a>(differences: impl IntoIterator<Item = &'a Difference>, allowed: u32) -> Answer {
+    let mut allowance = Allowance { allowed, spent: 0 };
+    let mut stop = None;
+    for difference in differences {
+        if let Err(why) = visit(&difference.base, &difference.cuts, &mut allowance) {
+            stop = Some(why);
+            break;
+        }
+    }
+    let (number, count, bytes) = match stop {
+        None => (1, allowance.spent, Vec::new()),
+        Some(Stop::Member(header)) => (2, allowance.spent, header.bytes()),
+        Some(Stop::Undecided) => (3, allowed, Vec::new()),
+    };
+    Answer { number, count, bytes }
+}
+
+/// Visits a piece with cuts left. It comes back without a stop if the piece is covered.
+fn visit(piece: &Cube, cuts: &[Cube], allowance: &mut Allowance) -> Result<(), Stop> {
+    allowance.spend()?;
+    let Some(next) = cuts.iter().position(|cut| cut.meets(piece)) else {
+        return Err(Stop::Member(piece.lowest_header()));
+    };
+    let (cut, after) = (&cuts[next], &cuts[next + 1..]);
+    // One copy serves all narrower pieces: having differed at a position, it then agrees there.
+    let mut narrower = piece.clone();
+    for position in piece.open_positions(cut) {
+        narrower.0[position] = opposite(cut.0[position]);
+        visit(&narrower, after, allowance)?;
+        narrower.0[position] = cut.0[position];
+    }
+    Ok(())
+}
+
+/// 1 + f1 (1 + f2 (... (1 + fk times 1))) over the cuts that meet the base, in their order; f is
+/// the number of positions that the cut fixes and the base leaves free.
+pub fn ceiling(difference: &Difference) -> u32 {
+    let base = &difference.base;
+    let meeting = difference.cuts.iter().filter(|cut| cut.meets(base));
+    meeting.rev().fold(1, |inner: u32, cut| {
+        let f = base.open_positions(cut).count() as u32;
+        f.saturating_mul(inner).saturating_add(1)
+    })
+}

@@ -1,0 +1,105 @@
+//! The fixed cases: every line of the readings, the document's figures and its slips.
+
+use reference::answer::Answer;
+use reference::cases;
+use reference::desk;
+use reference::notation::{bytes, c, cube, difference, f, r, w1};
+use reference::program::question;
+use reference::tidy::tidy;
+use reference::{calls, walk};
+
+#[test]
+fn every_case_has_its_answer() {
+    for case in cases::all() {
+        let given = desk::answer(case.question.as_bytes());
+        let shown: String = case.question.chars().take(100).collect();
+        assert_eq!(given, case.answer, "{}: {shown}", case.source);
+    }
+}
+
+#[test]
+fn every_source_is_there() {
+    let sources: Vec<&str> = cases::all().iter().map(|case| case.source).collect();
+    // A5d and A35 have no line of their own; A36 is about the question program.
+    let readings = (1..=34).map(|i| format!("A{i}"));
+    let lettered = ["A5b", "A5c", "A6b", "A6c", "A6d", "A8b", "A13b", "A30b"].map(String::from);
+    let figures = (1..=10).map(|i| format!("P{i}"));
+    for source in readings.chain(lettered).chain(figures) {
+        assert!(sources.contains(&source.as_str()), "{source}");
+    }
+}
+
+#[test]
+fn a24_the_wider_of_equal_cubes_is_the_first_itself() {
+    let (a, b) = (bytes(&c("1***")), bytes(&c("1***")));
+    let stretch = calls::wider(4, &a, &b).unwrap().unwrap();
+    assert!(std::ptr::eq(stretch, a.as_slice()));
+}
+
+#[test]
+fn the_wider_comes_back_as_the_lent_bytes() {
+    let (narrow, wide) = (bytes(&c("10**")), bytes(&c("1***")));
+    let second = calls::wider(4, &narrow, &wide).unwrap().unwrap();
+    assert!(std::ptr::eq(second, wide.as_slice()));
+    let first = calls::wider(4, &wide, &narrow).unwrap().unwrap();
+    assert!(std::ptr::eq(first, wide.as_slice()));
+}
+
+#[test]
+fn a36_the_question_programs_lines() {
+    assert_eq!(question(&[0; 65_537]), "refused 25 0\n");
+    assert_eq!(question(&[0; 65_536]), "refused 17 0\n");
+    assert_eq!(question(b""), "refused 15 0\n");
+    let file = f(12, &[r("1010********", &["10100*******"])]);
+    assert_eq!(question(&bytes(&file)), "member 2 A800\n");
+    assert_eq!(question(&bytes(&w1(4))), "empty 0\n");
+}
+
+#[test]
+fn the_question_programs_figure() {
+    let file = bytes("04 00 01 00 04 00 05 00 02 00 01 FF 9F");
+    assert_eq!(question(&file), "member 2 00\n");
+}
+
+#[test]
+fn the_question_program_can_be_undecided() {
+    // Each of the cuts leaves eight pieces to the next, and nothing survives the last two.
+    let apart = |i: usize| "*".repeat(8 * i) + "11111111" + &"*".repeat(8 * (9 - i));
+    let cuts: Vec<String> = (0..8).map(apart).collect();
+    let last = |value: &str| "*".repeat(79) + value;
+    let (zero, one) = (last("0"), last("1"));
+    let mut cuts: Vec<&str> = cuts.iter().map(String::as_str).collect();
+    cuts.extend([zero.as_str(), one.as_str()]);
+    let file = f(80, &[r(&"*".repeat(80), &cuts)]);
+    assert_eq!(question(&bytes(&file)), "undecided 1000000\n");
+}
+
+#[test]
+fn p1_p2_cubes_as_bytes() {
+    assert_eq!(cube("10**").bytes(), [0x9F]);
+    assert_eq!(cube("101").bytes(), [0x9B]);
+}
+
+#[test]
+fn p4_to_p7_walks_and_ceilings() {
+    let answer = |number, count, bytes: &[u8]| Answer { number, count, bytes: bytes.to_vec() };
+    let p4 = difference("****", &["10**"]);
+    assert_eq!((walk::walk([&p4], 9), walk::ceiling(&p4)), (answer(2, 2, &[0]), 3));
+    let p5 = difference("**", &["1*", "0*"]);
+    assert_eq!((walk::walk([&p5], 9), walk::ceiling(&p5)), (answer(1, 2, &[]), 3));
+    assert_eq!(walk::walk([&p5], 1), answer(3, 1, &[]));
+    let p7 = difference("**", &["00", "01", "10"]);
+    assert_eq!((walk::walk([&p7], 9), walk::ceiling(&p7)), (answer(2, 3, &[0xC0]), 15));
+}
+
+#[test]
+fn p10_a_cut_beside_the_base_is_dropped() {
+    assert_eq!(tidy(&difference("1*", &["0*"])), Some(difference("1*", &[])));
+}
+
+#[test]
+fn the_greatest_allowance_is_taken() {
+    let p5 = bytes(&r("**", &["1*", "0*"]));
+    let answer = calls::diff_empty(2, &p5, u32::MAX, 1).unwrap();
+    assert_eq!((answer.number, answer.count), (1, 2));
+}

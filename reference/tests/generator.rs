@@ -1,0 +1,57 @@
+//! The generator's lines: the same for a seed, of bounded size, and reaching every number.
+
+use reference::agree::agree;
+use reference::coverage::Coverage;
+use reference::desk::{answer, UNREADABLE};
+use reference::generator::Lines;
+
+const LINES: usize = 3_000;
+
+fn lines(seed: u64, count: usize) -> Vec<String> {
+    Lines::new(seed).take(count).collect()
+}
+
+#[test]
+fn a_seed_gives_the_same_lines() {
+    assert_eq!(lines(5, 700), lines(5, 700));
+    assert_ne!(lines(5, 700), lines(6, 700));
+}
+
+#[test]
+fn every_number_of_every_call_is_reached() {
+    for seed in [1, 2, 3] {
+        let mut coverage = Coverage::default();
+        for line in lines(seed, LINES) {
+            coverage.count(&line, &answer(line.as_bytes()));
+        }
+        assert_eq!(coverage.missing(), []);
+    }
+}
+
+#[test]
+fn the_lines_stay_small() {
+    let lines = lines(4, LINES);
+    let bytes: usize = lines.iter().map(|line| line.len() + 1).sum();
+    assert!(bytes < 1_200_000, "{bytes} bytes");
+    assert!(!lines.iter().any(|line| line.contains('\n')));
+}
+
+#[test]
+fn long_lines_come_later() {
+    let lengths: Vec<usize> = Lines::new(1).take(8_000).map(|line| line.len()).collect();
+    assert_eq!((lengths[3_999], lengths[7_999]), (524_289, 524_288));
+    let last = Lines::new(1).nth(3_999).unwrap();
+    assert_eq!(answer(last.as_bytes()), UNREADABLE);
+}
+
+#[test]
+fn differences_are_shown_and_counted() {
+    let questions = "a\nb\nc\n";
+    let same = agree(questions, "1\n2\n3\n", "1\n2\n3\n");
+    assert_eq!((same.report.as_str(), same.all), ("3 of 3 agree\n", true));
+    let other = agree(questions, "1\n5\n", "1\n2\n3\n");
+    assert!(other.report.starts_with("line 2: b\n  desk:      5\n  reference: 2\n"));
+    assert!(other.report.ends_with("1 of 3 agree\n") && !other.all);
+    let more = agree(questions, "1\n2\n3\n4\n", "1\n2\n3\n");
+    assert!(!more.all);
+}
