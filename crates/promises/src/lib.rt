@@ -1,0 +1,1 @@
+// No code: what is promised of every call, a theorem a line, in proofs/.
