@@ -10,37 +10,40 @@
 --   cube-meet-answers, cube-in-answers, wider-number-answers, diff-member-answers, region-member-answers, region-tidy-answers, diff-intersect-answers,
 --   region-intersect-answers, diff-less-answers, region-less-answers, diff-empty-answers, region-empty-answers, diff-in-answers, ceiling-answers,
 --   prefix-answers, equal-fields-answers    what each call answers, and where
-use Prim.Native.Nat.{ℕ, _+_, _*_, _≤_, _<_}
+--   equal-fields-tidy        the difference that equality of fields writes is tidy
+--   question-long, question-asks    what the question program tells
+use Prim.Native.Nat.{ℕ, _+_, _≤_, _<_}
 use native.Mathlib.Omega.{arith}
-use mathlib.Core.Path.{_≡_, refl, sym, ap, _∙_}
-use mathlib.Core.List.{List, []}
+use mathlib.Core.Path.{_≡_, refl, sym, ap, subst, _∙_}
+use mathlib.Core.List.{List, [], _∷_}
 use mathlib.Core.Logic.{_↔_}
 use mathlib.Core.Bool.{Bool, true, false, cond, not, _||_, true≢false}
 use lib.Dec.{eqb}
 use lib.ListN.{length, drop}
 use borrow.Author.Tests.{eqb-true, eqb-false}
 use Rattle.model.specs.Cube.{Cube, meet, shares, within}
-use Rattle.model.specs.Difference.{Region, inDifference, inRegion}
-use Rattle.model.specs.Tidy.{tidyRegion}
+use Rattle.model.specs.Difference.{Difference, Region, inDifference, inRegion}
+use Rattle.model.specs.Tidy.{tidy, tidyRegion}
 use Rattle.model.specs.Algebra.{intersection, intersections, subtraction, subtractions}
 use Rattle.model.specs.Fields.{prefixCube, unequal, equalFields}
 use Rattle.model.specs.Walk.{Found, decide, walk, walkRegion, walkInclusion}
 use Rattle.model.specs.Ceiling.{ceiling, capped}
 use Rattle.model.proofs.Padding.{length-meet}
-use Rattle.model.proofs.Field.{prefix-length, equal-count}
+use Rattle.model.proofs.Field.{prefix-length, equal-count, equal-tidy}
 use Rattle.answer.specs.Answer.{said, counted, wrote}
 use Rattle.format.specs.Rows.{Rows, last, row, is, below, isnt, so, passes, outcome}
-use Rattle.format.specs.Limits.{widest, mostCuts, mostDifferences}
+use Rattle.format.specs.Limits.{widest, mostCuts, mostDifferences, mostInput}
 use Rattle.format.specs.Bytes.{headerLen, cubeLen, bits, anyBit, readHeader, readCube, writeCube, lentFault}
 use Rattle.format.specs.Records.{widthOf, differenceAt, differenceBytes, fileBytes}
 use Rattle.format.specs.Files.{readFile, faultNumber, regionIn}
 use Rattle.format.specs.Told.{Told, silent, wide, lentCube, lentRecord, lentFile, lentBits, yesOr, writing, anyLong, writingRegion, deciding, walking}
-use Rattle.format.specs.Calls.{cube-meet, cube-in, wider-number, diff-member, region-member, region-tidy, diff-intersect, region-intersect, diff-less, region-less, diff-empty, region-empty, diff-in, ceiling-of, prefix, equal-fields}
+use Rattle.format.specs.Calls.{cube-meet, cube-in, wider-number, diff-member, region-member, region-tidy, diff-intersect, region-intersect, diff-less, region-less, diff-empty, region-empty, diff-in, ceiling-of, prefix, equal-fields, question}
 use Rattle.format.proofs.Reached.{reached}
 use Rattle.format.proofs.Refusals.{lent-refusal, record-refusal, file-refusal, past}
 use Rattle.format.proofs.Coding.{lent-length, read-length, write-length}
 use Rattle.format.proofs.Heading.{length-bits}
 use Rattle.format.proofs.Filing.{file-of}
+use Rattle.format.proofs.Rewriting.{equal-fields-written}
 use Rattle.format.proofs.Deciding.{Lent}
 
 pub record Tells (Ok : Type 0) (y x : Told) : Type 0 where
@@ -363,3 +366,20 @@ pub equal-fields-answers : (w p q n room : ℕ)
     Tells (Fields w p q n × (length bs ≤ room)) (writes bs) (equal-fields w p q n room)
 unfolding equal-fields outcome
 equal-fields-answers w p q n room = then (fields-tell w p q n _) (λ f. writing-tells _ room)
+
+-- the difference that equality writes is tidy as it stands
+pub equal-fields-tidy : (w p q n room : ℕ) → equal-fields w p q n room .answer .number ≡ 0
+    → let d = differenceAt w (equal-fields w p q n room .bytes) 0 in
+    tidy d ≡ d ∷ []
+equal-fields-tidy w p q n room e =
+    let f = equal-fields-answers w p q n room .accepted (omega arith) .0 in
+    subst (λ (d : Difference). tidy d ≡ d ∷ []) (sym (equal-fields-written w p q n room e .1)) (equal-tidy w p q n (f .first) (f .second))
+
+-- "25: the program's input is above 65,536 bytes"
+pub question-long : (s : List ℕ) → mostInput < length s → question s ≡ silent (said 25)
+unfolding question
+question-long s h = sym (reached 0 _ h)
+
+pub question-asks : (s : List ℕ) → length s ≤ mostInput → question s ≡ region-empty s 1000000 40
+unfolding question
+question-asks s h = sym (reached 1 _ (h, tt))

@@ -1,13 +1,14 @@
 -- Demand 3 of the calls that walk. Assumes nothing.
---   Decides w n In v Ok x    == x, told by a call with the allowance n that is accepted exactly where Ok holds, says of the walk v, which looks for a
---                               header of w positions that In holds of: yes exactly where there is none, or no and shows one, unless the allowance
---                               is too small; undecided exactly where the walk has more pieces than the allowance; and a count that is that walk's
+--   Decides w n In v Ok x    == x is told by a call with the allowance n, which is accepted exactly where Ok holds and looks by the walk v for a header
+--                               of w positions that In holds of: where the allowance pays for the walk, it is yes exactly where there is none and
+--                               no, with one shown, exactly where there is one; it is undecided exactly where the walk has more pieces than the
+--                               allowance; its count is the walk's pieces, or where it is undecided the allowance
 --   diff-empty-decides, region-empty-decides, diff-in-decides    so each of them does
 --   ceilings r               == the ceilings of the differences of r, added up
 --   region-at-most-ceilings, in-at-most-ceilings    the count of a region's walk, and of inclusion's, is never above those of what is walked
 use Prim.Native.Nat.{ℕ, _+_, _≤_, _<_}
 use native.Mathlib.Omega.{arith}
-use mathlib.Core.Path.{_≡_, refl, sym, ap, _∙_}
+use mathlib.Core.Path.{_≡_, refl, sym, _∙_}
 use mathlib.Core.List.{List, [], _∷_}
 use mathlib.Core.Logic.{_↔_}
 use mathlib.Core.Bool.{Bool, true, false, not, _&&_, true≢false}
@@ -21,20 +22,20 @@ use Rattle.model.specs.Ceiling.{ceiling}
 use Rattle.model.proofs.Bound.{pieces-at-most-ceiling}
 use Rattle.model.proofs.Allowed.{decided-when, undecided-when}
 use Rattle.format.specs.Rows.{Rows, outcome}
-use Rattle.format.specs.Bytes.{headerLen}
+use Rattle.format.specs.Bytes.{headerLen, readHeader}
 use Rattle.format.specs.Records.{widthOf, differenceAt}
 use Rattle.format.specs.Files.{regionIn}
 use Rattle.format.specs.Told.{Told, deciding}
 use Rattle.format.specs.Calls.{diff-empty, region-empty, diff-in}
 use Rattle.format.proofs.Asking.{Shown, count-told}
-use Rattle.format.proofs.Deciding.{Lent, empty-yes, empty-yes-when, empty-no, empty-undecided, empty-undecided-when, region-yes, region-yes-when, region-no, region-undecided, region-undecided-when, in-yes, in-yes-when, in-no, in-undecided, in-undecided-when}
+use Rattle.format.proofs.Deciding.{Lent, empty-yes, empty-yes-when, empty-no, empty-undecided, empty-undecided-when, empty-count, region-yes, region-yes-when, region-no, region-undecided, region-undecided-when, region-count, in-yes, in-yes-when, in-no, in-undecided, in-undecided-when, in-count}
 use Rattle.promises.proofs.Quiet.{Mute, Ends, told-by}
 use Rattle.promises.proofs.Answering.{Accepted, Tells, diff-empty-answers, region-empty-answers, diff-in-answers}
 
 pub record Decides (w n : ℕ) (In : Header → Bool) (v : Found) (Ok : Type 0) (x : Told) : Type 0 where
   pub yes : (x .answer .number ≡ 1) ↔ (Ok × (v .pieces ≤ n) × ((h : Header) → In h ≡ false))
+  pub no : (x .answer .number ≡ 2) ↔ (Ok × (v .pieces ≤ n) × ((h : Header) × (In h ≡ true)))
   pub shown : x .answer .number ≡ 2 → Shown w In x
-  pub no-when : Ok → v .pieces ≤ n → (h : Header) → In h ≡ true → x .answer .number ≡ 2
   pub undecided : (x .answer .number ≡ 3) ↔ (Ok × (n < v .pieces))
   pub yes-count : x .answer .number ≡ 1 → x .answer .count ≡ v .pieces
   pub no-count : x .answer .number ≡ 2 → x .answer .count ≡ v .pieces
@@ -55,20 +56,23 @@ module _ (w n : ℕ) (In : Header → Bool) (v : Found) {Ok : Type 0} {x : Told}
     (yes-when : Ok → v .pieces ≤ n → ((h : Header) → In h ≡ false) → x .answer .number ≡ 1)
     (no : x .answer .number ≡ 2 → (v .pieces ≤ n) × Shown w In x)
     (late : x .answer .number ≡ 3 → (n < v .pieces) × (x .answer .count ≡ n))
-    (late-when : Ok → n < v .pieces → x .answer .number ≡ 3) where
+    (late-when : Ok → n < v .pieces → x .answer .number ≡ 3) (count : Ok → x .answer .count ≡ countOf (decide n v)) where
   count-pieces : x .answer .number < 10 → v .pieces ≤ n → x .answer .count ≡ v .pieces
-  count-pieces l m = rw (t .told (t .accepted l), count-told w (decide n v), decided-when n v m) (count-decided (v .pieces) (v .survivor))
+  count-pieces l m = rw (count (t .accepted l), decided-when n v m) (count-decided (v .pieces) (v .survivor))
+
+  no-when : Ok → v .pieces ≤ n → (h : Header) → In h ≡ true → x .answer .number ≡ 2
+  no-when o m h i =
+      let r = rw (← t .told o) at (told-number w (decide n v)) in
+      let y : x .answer .number ≡ 1 → ⊥ = λ e. true≢false (sym i ∙ yes e .1 h) in
+      let u : x .answer .number ≡ 3 → ⊥ = λ e. let z = late e .0 in omega arith in
+      omega arith
 
   decides : Decides w n In v Ok x
   decides =
       record {
         yes = (λ e. (t .accepted (omega arith), yes e .0, yes e .1), λ o. yes-when (o .0) (o .1) (o .2));
+        no = (λ e. (t .accepted (omega arith), no e .0, (readHeader w (x .bytes), no e .1 .inside)), λ o. no-when (o .0) (o .1) (o .2 .0) (o .2 .1));
         shown = λ e. no e .1;
-        no-when = λ o m h i.
-            let r = rw (← t .told o) at (told-number w (decide n v)) in
-            let y : x .answer .number ≡ 1 → ⊥ = λ e. true≢false (sym i ∙ yes e .1 h) in
-            let u : x .answer .number ≡ 3 → ⊥ = λ e. let z = late e .0 in omega arith in
-            omega arith;
         undecided = (λ e. (t .accepted (omega arith), late e .0), λ o. late-when (o .0) (o .1));
         yes-count = λ e. count-pieces (omega arith) (yes e .0);
         no-count = λ e. count-pieces (omega arith) (no e .0);
@@ -82,7 +86,7 @@ diff-empty-decides w s n room =
     let d = differenceAt w s 0 in
     decides w n (inDifference d) (walk d) (diff-empty-answers w s n room) (λ e. let y = empty-yes w s n room e in (y .1, y .2))
     (λ o m f. empty-yes-when w s n room o m (λ h l. f h)) (λ e. let y = empty-no w s n room e in (y .1, y .2))
-    (λ e. let y = empty-undecided w s n room e in (y .1, y .2)) (empty-undecided-when w s n room)
+    (λ e. let y = empty-undecided w s n room e in (y .1, y .2)) (empty-undecided-when w s n room) (empty-count w s n room)
 
 pub region-empty-decides : (s : List ℕ) (n room : ℕ)
     → let r = regionIn s in
@@ -91,7 +95,7 @@ region-empty-decides s n room =
     let r = regionIn s in
     decides (widthOf s) n (inRegion r) (walkRegion r) (region-empty-answers s n room) (λ e. let y = region-yes s n room e in (y .1, y .2))
     (λ o m f. region-yes-when s n room o m (λ h l. f h)) (λ e. let y = region-no s n room e in (y .1, y .2))
-    (λ e. let y = region-undecided s n room e in (y .1, y .2)) (region-undecided-when s n room)
+    (λ e. let y = region-undecided s n room e in (y .1, y .2)) (region-undecided-when s n room) (region-count s n room)
 
 -- inclusion
 none-out : (m n : Bool) → (m ≡ true → n ≡ true) → m && not n ≡ false
@@ -114,7 +118,7 @@ diff-in-decides w s t n room =
     (λ e. let y = in-yes w s t n room e in (y .1, λ h. none-out _ _ (y .2 h)))
     (λ o m f. in-yes-when w s t n room (o .0 .0, o .0 .1, o .1) m (λ h l. all-in _ _ (f h)))
     (λ e. let y = in-no w s t n room e in (y .1, y .2)) (λ e. let y = in-undecided w s t n room e in (y .1, y .2))
-    (λ o. in-undecided-when w s t n room (o .0 .0, o .0 .1, o .1))
+    (λ o. in-undecided-when w s t n room (o .0 .0, o .0 .1, o .1)) (λ o. in-count w s t n room (o .0 .0, o .0 .1, o .1))
 
 -- the ceilings of what is walked
 abbrev pub ceilings : Region → ℕ

@@ -6,7 +6,7 @@
 --   view-nothing             a view whose number is not 1 is a stretch of length 0
 --   read-on-next, read-on-last, read-on-refused, read-on-wide    a step at an accepted record, at the file's end, at a refused record, and in a file
 --                            whose kind 1 record is refused
-use Prim.Native.Nat.{ℕ, zero, suc, _+_, _*_, _≤_, _<_}
+use Prim.Native.Nat.{ℕ, zero, suc, _≤_, _<_}
 use native.Mathlib.Omega.{arith}
 use mathlib.Core.Path.{_≡_, refl, sym, ap, _∙_}
 use mathlib.Core.List.{List, [], _∷_, map}
@@ -16,7 +16,7 @@ use lib.ListN.{length, getD, length-map}
 use Rattle.model.specs.Cube.{within}
 use Rattle.model.specs.Difference.{Difference, less}
 use Rattle.answer.specs.Answer.{said, fault, placed}
-use Rattle.format.specs.Rows.{last, row, is, below, isnt, so, passes, outcome}
+use Rattle.format.specs.Rows.{last, row, is, below, isnt, passes, outcome}
 use Rattle.format.specs.Limits.{widest}
 use Rattle.format.specs.Bytes.{readCube, lentFault}
 use Rattle.format.specs.Records.{countAt, nextAt, widthOf, widthFault, differenceAt, differenceFault}

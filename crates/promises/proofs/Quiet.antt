@@ -1,10 +1,13 @@
 -- What each call leaves untouched. Assumes nothing.
---   Kept room x          == x, told by a call that was lent a buffer of that room, writes nothing where it refuses, says yes or is undecided; what it
---                           writes is as long as its result says, and fits
---   cube-meet-kept, .. , question-kept    so it is of every call; a call that is lent no buffer writes nothing into no room
---   nothing-written      a refusal, a yes and undecided write no byte
---   untouched            so the buffer is as it was
---   front, behind, room-kept    and where a call writes, the bytes written stand at the buffer's front, and it is as it was behind them
+--   Kept room x          == x is told by a call that was lent a buffer of that room: it writes nothing where it refuses, says yes or is undecided, and
+--                           counts nothing where it refuses; what it writes is as long as its result says, and fits
+--   Mute k               == no row of the table k writes or counts anything, but for its last line
+--   Ends P k             == P holds of the last line of k where every test fails
+--   told-by              what holds of all that writes and counts nothing, and of the last line, holds of what such a table gives
+--   cube-in-kept, .. , question-kept    every call's outcome is Kept; of a call that is lent no buffer, in no room
+--   Unwritten r          == the result r is a refusal, yes or undecided
+--   nothing-written, untouched    then no byte is told, and the buffer is as it was
+--   front, behind, room-kept      what is written stands at the buffer's front; behind it, and in length, the buffer is as it was
 use Prim.Native.Nat.{ℕ, _≤_}
 use native.Mathlib.Omega.{arith}
 use mathlib.Core.Path.{_≡_, refl, sym, ap, _∙_}
@@ -23,8 +26,6 @@ use Rattle.format.specs.Files.{regionIn}
 use Rattle.format.specs.Told.{Told, over, deciding}
 use Rattle.format.specs.Calls.{cube-meet, cube-in, wider-number, diff-member, region-member, region-tidy, diff-intersect, region-intersect, diff-less, region-less, diff-empty, region-empty, diff-in, ceiling-of, prefix, equal-fields, question}
 use Rattle.format.proofs.Reached.{each}
-use Rattle.format.proofs.Refusals.{Past}
-use Rattle.format.proofs.Asking.{Shown}
 use Rattle.format.proofs.Deciding.{empty-no, region-no, in-no}
 use Rattle.promises.proofs.Agreement.{Permitted}
 

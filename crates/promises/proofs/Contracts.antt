@@ -1,0 +1,116 @@
+-- What each public call's contract asks and permits: nothing is asked, and the outcomes of its definition are permitted and no other. The prover writes
+-- each contract down as a caller has it: `Asked` is what a caller has to show of the arguments a, and `Learnt` what it learns of them, the result x and
+-- the arguments at exit e, in the order of the call's parameters. Assumes nothing.
+--   Promise n ps r Asked Learnt P    == the contract takes anything, and what it permits has P
+--   cube-meet-promise, .. , permit-empty-promise    so it is of each call, with the outcomes that its definition of specs/Calls.antt permits
+use Prim.Native.Nat.{ℕ}
+use mathlib.Core.Path.{_≡_}
+use mathlib.Core.List.{List}
+use lib.ListN.{length}
+use contract.Lifetimes.{Lfts}
+use denote.Ref.{now}
+use denote.Triple.Clauses.{AtExit}
+use borrow.Fn.Kind.{PK, RK}
+use borrow.Fn.Kinds.{In, Out, Dens, resT, endedOf}
+use Rattle.format.specs.Calls.{cube-meet, cube-in, wider-number, diff-member, region-member, view, read-on, diff-empty, region-empty, diff-in, ceiling-of}
+use Rattle.cube.specs.Call.{WiderIs}
+use Rattle.region.specs.Viewing.{StretchIs, stepped}
+use Rattle.cube.proofs.cube_meet.Kinds as cube-meet-kinds
+use Rattle.cube.proofs.cube_meet.Reads as cube-meet-contract
+use Rattle.cube.proofs.«cube_in».Kinds as cube-in-kinds
+use Rattle.cube.proofs.«cube_in».Reads as cube-in-contract
+use Rattle.cube.proofs.wider_number.Kinds as wider-number-kinds
+use Rattle.cube.proofs.wider_number.Reads as wider-number-contract
+use Rattle.cube.proofs.wider.Kinds as wider-kinds
+use Rattle.cube.proofs.wider.Reads as wider-contract
+use Rattle.region.proofs.diff_member.Kinds as diff-member-kinds
+use Rattle.region.proofs.diff_member.Reads as diff-member-contract
+use Rattle.region.proofs.region_member.Kinds as region-member-kinds
+use Rattle.region.proofs.region_member.Reads as region-member-contract
+use Rattle.region.proofs.view.Kinds as view-kinds
+use Rattle.region.proofs.view.Reads as view-contract
+use Rattle.region.proofs.view_number.Kinds as view-number-kinds
+use Rattle.region.proofs.view_number.Reads as view-number-contract
+use Rattle.region.proofs.read_on.Kinds as read-on-kinds
+use Rattle.region.proofs.read_on.Reads as read-on-contract
+use Rattle.walk.proofs.diff_empty.Kinds as diff-empty-kinds
+use Rattle.walk.proofs.diff_empty.Reads as diff-empty-contract
+use Rattle.walk.proofs.region_empty.Kinds as region-empty-kinds
+use Rattle.walk.proofs.region_empty.Reads as region-empty-contract
+use Rattle.walk.proofs.«diff_in».Kinds as diff-in-kinds
+use Rattle.walk.proofs.«diff_in».Reads as diff-in-contract
+use Rattle.walk.proofs.ceiling.Kinds as ceiling-kinds
+use Rattle.walk.proofs.ceiling.Reads as ceiling-contract
+use Rattle.broker.proofs.permit_member.Kinds as permit-member-kinds
+use Rattle.broker.proofs.permit_member.Reads as permit-member-contract
+use Rattle.broker.proofs.permit_empty.Kinds as permit-empty-kinds
+use Rattle.broker.proofs.permit_empty.Reads as permit-empty-contract
+use Rattle.promises.proofs.Agreement.{Permitted}
+
+pub record Promise (n : ℕ) (ps : List (PK n)) (r : RK n) (Asked : In n ps) (Learnt P : Out n ps r) : Type 0 where
+  pub anything : (κs : Lfts n) (a : Dens κs ps) → Asked κs a
+  pub permits : (κs : Lfts n) (a : Dens κs ps) (x : resT r κs .Denot) (e : AtExit (endedOf n ps r) κs) → Learnt κs a x e → P κs a x e
+
+-- cube
+pub cube-meet-promise : Promise 3 cube-meet-kinds.ps cube-meet-kinds.r cube-meet-contract.Asked cube-meet-contract.Learnt
+    (λ κs a x e. Permitted (cube-meet (a .0) (now (a .1 .0)) (now (a .1 .1 .0)) (length (now (a .1 .1 .1 .0)))) (now (a .1 .1 .1 .0)) x (now (e .1 .1 .1 .0)))
+cube-meet-promise = record { anything = λ κs a. tt; permits = λ κs a x e l. record { answer = l .0; buffer = l .1 } }
+
+pub cube-in-promise : Promise 2 cube-in-kinds.ps cube-in-kinds.r cube-in-contract.Asked cube-in-contract.Learnt
+    (λ κs a x e. x ≡ cube-in (a .0) (now (a .1 .0)) (now (a .1 .1 .0)) .answer)
+cube-in-promise = record { anything = λ κs a. tt; permits = λ κs a x e l. l }
+
+pub wider-number-promise : Promise 2 wider-number-kinds.ps wider-number-kinds.r wider-number-contract.Asked wider-number-contract.Learnt
+    (λ κs a x e. x ≡ wider-number (a .0) (now (a .1 .0)) (now (a .1 .1 .0)) .answer)
+wider-number-promise = record { anything = λ κs a. tt; permits = λ κs a x e l. l }
+
+pub wider-promise : Promise 1 wider-kinds.ps wider-kinds.r wider-contract.Asked wider-contract.Learnt
+    (λ κs a x e. WiderIs (a .0) (a .1 .0) (a .1 .1 .0) x)
+wider-promise = record { anything = λ κs a. tt; permits = λ κs a x e l. l }
+
+-- region
+pub diff-member-promise : Promise 2 diff-member-kinds.ps diff-member-kinds.r diff-member-contract.Asked diff-member-contract.Learnt
+    (λ κs a x e. x ≡ diff-member (a .0) (now (a .1 .0)) (now (a .1 .1 .0)) .answer)
+diff-member-promise = record { anything = λ κs a. tt; permits = λ κs a x e l. l }
+
+pub region-member-promise : Promise 2 region-member-kinds.ps region-member-kinds.r region-member-contract.Asked region-member-contract.Learnt
+    (λ κs a x e. x ≡ region-member (now (a .0)) (now (a .1 .0)) .answer)
+region-member-promise = record { anything = λ κs a. tt; permits = λ κs a x e l. l }
+
+pub view-promise : Promise 1 view-kinds.ps view-kinds.r view-contract.Asked view-contract.Learnt
+    (λ κs a x e. StretchIs (a .0) (a .1 .0) (a .1 .1 .0) x)
+view-promise = record { anything = λ κs a. tt; permits = λ κs a x e l. l }
+
+pub view-number-promise : Promise 1 view-number-kinds.ps view-number-kinds.r view-number-contract.Asked view-number-contract.Learnt
+    (λ κs a x e. x ≡ view (now (a .0)) (a .1 .0) (a .1 .1 .0) .answer)
+view-number-promise = record { anything = λ κs a. tt; permits = λ κs a x e l. l }
+
+pub read-on-promise : Promise 1 read-on-kinds.ps read-on-kinds.r read-on-contract.Asked read-on-contract.Learnt
+    (λ κs a x e. stepped x ≡ read-on (now (a .0)) (a .1 .0))
+read-on-promise = record { anything = λ κs a. tt; permits = λ κs a x e l. l }
+
+-- walk
+pub diff-empty-promise : Promise 2 diff-empty-kinds.ps diff-empty-kinds.r diff-empty-contract.Asked diff-empty-contract.Learnt
+    (λ κs a x e. Permitted (diff-empty (a .0) (now (a .1 .0)) (a .1 .1 .0) (length (now (a .1 .1 .1 .0)))) (now (a .1 .1 .1 .0)) x (now (e .1 .1 .1 .0)))
+diff-empty-promise = record { anything = λ κs a. tt; permits = λ κs a x e l. record { answer = l .0; buffer = l .1 } }
+
+pub region-empty-promise : Promise 2 region-empty-kinds.ps region-empty-kinds.r region-empty-contract.Asked region-empty-contract.Learnt
+    (λ κs a x e. Permitted (region-empty (now (a .0)) (a .1 .0) (length (now (a .1 .1 .0)))) (now (a .1 .1 .0)) x (now (e .1 .1 .0)))
+region-empty-promise = record { anything = λ κs a. tt; permits = λ κs a x e l. record { answer = l .0; buffer = l .1 } }
+
+pub diff-in-promise : Promise 3 diff-in-kinds.ps diff-in-kinds.r diff-in-contract.Asked diff-in-contract.Learnt
+    (λ κs a x e. Permitted (diff-in (a .0) (now (a .1 .0)) (now (a .1 .1 .0)) (a .1 .1 .1 .0) (length (now (a .1 .1 .1 .1 .0)))) (now (a .1 .1 .1 .1 .0)) x (now (e .1 .1 .1 .1 .0)))
+diff-in-promise = record { anything = λ κs a. tt; permits = λ κs a x e l. record { answer = l .0; buffer = l .1 } }
+
+pub ceiling-promise : Promise 1 ceiling-kinds.ps ceiling-kinds.r ceiling-contract.Asked ceiling-contract.Learnt
+    (λ κs a x e. x ≡ ceiling-of (a .0) (now (a .1 .0)) .answer)
+ceiling-promise = record { anything = λ κs a. tt; permits = λ κs a x e l. l }
+
+-- broker
+pub permit-member-promise : Promise 2 permit-member-kinds.ps permit-member-kinds.r permit-member-contract.Asked permit-member-contract.Learnt
+    (λ κs a x e. x ≡ region-member (now (a .0)) (now (a .1 .0)) .answer)
+permit-member-promise = record { anything = λ κs a. tt; permits = λ κs a x e l. l }
+
+pub permit-empty-promise : Promise 2 permit-empty-kinds.ps permit-empty-kinds.r permit-empty-contract.Asked permit-empty-contract.Learnt
+    (λ κs a x e. Permitted (region-empty (now (a .0)) (a .1 .0) (length (now (a .1 .1 .0)))) (now (a .1 .1 .0)) x (now (e .1 .1 .0)))
+permit-empty-promise = record { anything = λ κs a. tt; permits = λ κs a x e l. record { answer = l .0; buffer = l .1 } }
