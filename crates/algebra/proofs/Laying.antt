@@ -2,7 +2,7 @@
 --   over-byte, over-more     laying one byte more, and one part more
 --   tail-back                what a buffer holds when a callee laid bytes over the front of the part that was lent to it
 --   part-back, behind-back   what it holds when a part of it, or the part behind others, was lent and came back
---   length-over, length-laid the buffer keeps its length
+--   length-over              the buffer keeps its length
 --   front-laid, here-laid, back-laid   what stands before the bytes laid, the bytes themselves, and what stands behind them
 use Prim.Native.Nat.{ℕ, suc, _+_, _-_, _≤_, _<_}
 use native.Mathlib.Numerals.{add-one}
@@ -33,9 +33,6 @@ tail-back xs p ys o k e y =
     rw (y, take-all k (drop o xs) l, drop-of-length-le (drop o xs) l, append-nil)
 
 module _ (old new : List ℕ) (o : ℕ) (fits : o + length new ≤ length old) where
-  pub length-laid : length (laid old o new) ≡ length old
-  length-laid = simp (length-append, length-take, length-drop) (omega arith)
-
   pub front-laid : (n : ℕ) → n ≤ o → take n (laid old o new) ≡ take n old
   front-laid n h = take-append-le n (take o old) (over (drop o old) new) (simp length-take (omega arith)) ∙ take-take n o old h
 

@@ -126,9 +126,6 @@ four x y z v bs =
     let d = digits (numberOf x) (numberOf y) (numberOf z) (numberOf v) (number-lt x) (number-lt y) (number-lt z) (number-lt v) in
     rw (d .0, d .1, d .2, d .3, code-number x, code-number y, code-number z, code-number v)
 
-free-four : (n : ℕ) → _≡_ {A = Cube} (free ∷ free ∷ free ∷ free ∷ replicate (4 * n) free) (replicate (4 * suc n) free)
-free-four n = let e : 4 * suc n ≡ suc (suc (suc (suc (4 * n)))) = omega arith in rw e
-
 pub write-padded : (n : ℕ) (c : Cube) → length c ≤ 4 * n → codes (cubeBytes n c) ≡ pad (4 * n - length c) c
 unfolding cubeBytes
 write-padded zero [] h = refl

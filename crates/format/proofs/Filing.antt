@@ -1,10 +1,10 @@
 -- Region files: one turn of their reading, what an accepted file holds, and that reading and writing undo one another. Assumes nothing.
 --   from-end, from-refused, from-record    a reading at the file's end, at a refused record, at an accepted one; n counts the records before it
---   before-number, before-offset           a record read before the rest leaves the rest's refusal as it is
+--   before-number                          a record read before the rest leaves the rest's refusal as it is
 --   read-refused, read-begun               a file whose kind 1 record is refused, and one whose kind 1 record is accepted
 --   Width, width-of          the facts about an accepted kind 1 record, and that one has them
 --   Listed w s at n os       == os are the offsets of the accepted records from an offset to the end, with n before it
---   listed-end, listed-turn  such offsets at the end and before it
+--   listed-turn              such offsets before the end
 --   File, file-of            the facts about an accepted file, and that a file with no fault has them
 --   file-good, file-cuts, file-count    the region read of an accepted file is Good, no difference has too many cuts, nor are they too many
 --   write-file-read          an accepted file is written again with the same bytes
@@ -25,7 +25,7 @@ use Rattle.model.proofs.Bools.{or-none}
 use Rattle.format.specs.Limits.{widest, mostCuts, mostDifferences, widthKind}
 use Rattle.format.specs.Bytes.{Bytes}
 use Rattle.format.specs.Records.{u16Bytes, countAt, lengthAt, kindAt, nextAt, widthOf, widthRows, widthFault, differenceFault, differenceBytes, differencesBytes, fileBytes}
-use Rattle.format.specs.Files.{Reading, refused, whole, faultNumber, faultOffset, offsets, before, differencesFrom, readFile, regionOf, regionIn}
+use Rattle.format.specs.Files.{Reading, refused, whole, faultNumber, offsets, before, differencesFrom, readFile, regionOf, regionIn}
 use Rattle.format.specs.Told.{anyLong}
 use Rattle.format.proofs.Reached.{reached, clean}
 use Rattle.format.proofs.Recording.{u16-same, Record, record-of, drop-past, length-written, bytes-written, bytes-append, next-read, difference-read, record-accepted, cuts-count, good-read, bytes-read}
@@ -58,10 +58,6 @@ module _ (w : ℕ) (s : List ℕ) (at n : ℕ) where
 pub before-number : (at : ℕ) (r : Reading) → faultNumber (before at r) ≡ faultNumber r
 before-number at (refused f o) = refl
 before-number at (whole os) = refl
-
-pub before-offset : (at : ℕ) (r : Reading) → faultOffset (before at r) ≡ faultOffset r
-before-offset at (refused f o) = refl
-before-offset at (whole os) = refl
 
 -- kind 1
 pub read-refused : (s : List ℕ) → (widthFault s ≡ 0 → ⊥) → readFile s ≡ refused (widthFault s) 0
@@ -135,10 +131,6 @@ file-of s e = file-of-lists s (eqb (widthFault s) 0) refl e
 
 -- what such offsets say
 module _ {w : ℕ} {s : List ℕ} where
-  pub listed-end : {at n : ℕ} {os : List ℕ} → Listed w s at n os → length s ≤ at → os ≡ []
-  listed-end (ended h) l = refl
-  listed-end (listed r rest) l = absurd (omega arith)
-
   pub listed-turn : {at n : ℕ} {os : List ℕ} → Listed w s at n os → at < length s
       → (later : List ℕ) × (os ≡ at ∷ later) × Record false w n s at × Listed w s (nextAt s at) (n + 1) later
   listed-turn (ended h) l = absurd (omega arith)

@@ -1,7 +1,6 @@
 -- What the calls write: where the number is 0, the bytes are accepted again, and hold exactly the headers of the operation. Assumes nothing.
 --   Refusing, Passed, passed    a table whose every row but the last line refuses; where its number is 0, every test fails and the last line is told
 --   Written w r bs           == the bytes bs are an accepted file of width w that holds the region r
---   written-accepted         a Good region that is written makes such a file
 --   tidy-same                a tidy file is tidied to the same bytes
 --   tidy-again, region-tidy-again    so tidying changes nothing in a file that was written tidied, such as its own
 --   region-tidy-written, diff-intersect-written, region-intersect-written, diff-less-written, region-less-written
@@ -11,7 +10,6 @@
 --   WrittenCube w c bs       == the bytes bs are accepted as a lent cube of w positions, and it is c
 --   cube-meet-written, in-cube-meet, prefix-written, in-prefix-written    the cube that each call writes, and its headers
 --   equal-fields-written, in-equal-fields    the single record that equality of fields writes, and its headers
---   written-length           the result's bytes written are as many as are written
 use Prim.Native.Nat.{ℕ, _+_, _≤_}
 use native.Mathlib.Omega.{arith}
 use mathlib.Core.Path.{_≡_, refl, sym, ap, subst, _∙_}
@@ -77,11 +75,6 @@ file-written w r room x g some narrow p =
       width = width-read w r g (p .0) few some narrow;
       region = region-read w r g (p .0) few some narrow;
     })
-
-pub written-accepted : (w : ℕ) (r : Region) (room : ℕ) → All (Good w) r → 1 ≤ w → w ≤ widest → outcome (writingRegion w r room) .answer .number ≡ 0
-    → Written w r (outcome (writingRegion w r room) .bytes)
-written-accepted w r room g some narrow e =
-    file-written w r room (outcome (writingRegion w r room)) g some narrow (passed _ e (omega arith))
 
 in-written : {w : ℕ} (r : Region) {bs : List ℕ} → Written w (tidyRegion r) bs → (h : Header) → inRegion (regionIn bs) h ≡ inRegion r h
 in-written r f h = rw (f .region) (in-tidyRegion r h)
@@ -267,23 +260,3 @@ module _ (w p q n room : ℕ) (e : equal-fields w p q n room .answer .number ≡
       → inDifference (differenceAt w (equal-fields w p q n room .bytes) 0) h ≡ sameBits (take n (drop p h)) (take n (drop q h))
   in-equal-fields h l =
       ap (λ (d : Difference). inDifference d h) (equal-fields-written .1) ∙ in-equal w p q n h l (equal-facts .1) (equal-facts .2)
-
--- the length that is told
-abbrev Measured : Told → Type 0
-Measured x = x .answer .written ≡ length (x .bytes)
-
-module _ (w p q n m room : ℕ) (s t : List ℕ) where
-  pub written-length : Measured (cube-meet w s t room) × Measured (region-tidy s room) × Measured (diff-intersect w s t room)
-      × Measured (region-intersect s t room) × Measured (diff-less w s t room) × Measured (region-less s t room)
-      × Measured (prefix w p n m s room) × Measured (equal-fields w p q n room)
-  unfolding cube-meet region-tidy diff-intersect region-intersect diff-less region-less prefix equal-fields
-  written-length = (
-    each Measured _ (omega arith),
-    each Measured _ (omega arith),
-    each Measured _ (omega arith),
-    each Measured _ (omega arith),
-    each Measured _ (omega arith),
-    each Measured _ (omega arith),
-    each Measured _ (omega arith),
-    each Measured _ (omega arith),
-  )

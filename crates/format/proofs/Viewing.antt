@@ -1,6 +1,7 @@
 -- The calls that hand back a stretch of the file or a place in it. Assumes nothing.
 --   differenceOf r d         == the difference of index d in the region r
 --   cubesOf d                == the cubes of the difference d by index; 0 is the base
+--   map-at, listed-at        what stands at an index of a list made from another, and at one of an accepted file's offsets
 --   Seen s d i v             == the stretch v of the file s is the cube of index i in its difference of index d
 --   view-told                where a view's number is 1, its stretch is that cube
 --   Onward s place x         == the step x from a place gives the accepted record there, and the next place is that record's end
@@ -34,7 +35,7 @@ differenceOf r d = getD r d (less [] [])
 abbrev pub cubesOf : Difference → List Cube
 cubesOf d = d .base ∷ d .cuts
 
-map-at : {A : Type 0} (f : ℕ → A) (os : List ℕ) (d : ℕ) (x : A) → d < length os → getD (map f os) d x ≡ f (getD os d 0)
+pub map-at : {A : Type 0} (f : ℕ → A) (os : List ℕ) (d : ℕ) (x : A) → d < length os → getD (map f os) d x ≡ f (getD os d 0)
 map-at f [] d x h = absurd (omega arith)
 map-at f (o ∷ os) zero x h = refl
 map-at f (o ∷ os) (suc d) x h = map-at f os d x (omega arith)
@@ -47,7 +48,7 @@ cube-at w s (suc k) (suc i) at h =
     let z : at + suc i * cubeLen w ≡ at + cubeLen w + i * cubeLen w = omega arith in
     rw z (cube-at w s k i (at + cubeLen w) (omega arith))
 
-listed-at : {w : ℕ} {s : List ℕ} {at n : ℕ} {os : List ℕ} → Listed w s at n os → (d : ℕ) → d < length os → (m : ℕ) × Record false w m s (getD os d 0)
+pub listed-at : {w : ℕ} {s : List ℕ} {at n : ℕ} {os : List ℕ} → Listed w s at n os → (d : ℕ) → d < length os → (m : ℕ) × Record false w m s (getD os d 0)
 listed-at (ended h) d l = absurd (omega arith)
 listed-at (listed {n = n} r rest) zero l = (n, r)
 listed-at (listed r rest) (suc d) l = listed-at rest d (omega arith)

@@ -1,6 +1,5 @@
 -- The set meaning of the walk.
 --   in-children      the pieces to visit hold together the headers of the piece that are not in the cut
---   children-solid   they have no `none`
 --   survivor-solid, survivor-length   a survivor has no `none` where the piece has none, and is as long
 --   survivor-in      each header of a survivor is in the piece and in no cut
 --   survivor-shown   so is the header shown
@@ -15,13 +14,13 @@ use mathlib.Core.Path.{_≡_, refl, sym, ap, subst, _∙_}
 use mathlib.Core.List.{List, [], _∷_, map}
 use mathlib.Core.Bool.{Bool, true, false, not, _&&_, _||_, cond, or-true, and-false, and-or-distrib-left, and-or-distrib-right}
 use lib.ListN.{length}
-use Rattle.model.specs.Cube.{Header, Code, none, v0, v1, free, Cube, admits, holds, meetCode, meet, coded, solid, shares, shown}
+use Rattle.model.specs.Cube.{Header, Code, none, v0, v1, free, Cube, admits, holds, meetCode, coded, solid, shares, shown}
 use Rattle.model.specs.Difference.{less, Region, anyHolds, inDifference, inRegion}
 use Rattle.model.specs.Sized.{All}
 use Rattle.model.specs.Walk.{opens, other, children, Survivor, nothing, piece, Found, joined, inTurn, counted, visit, walk, walkRegion}
 use Rattle.model.proofs.Bools.{and-left, and-right}
-use Rattle.model.proofs.Cubes.{in-shown, in-solid, shares-shown, apart-none}
-use Rattle.model.proofs.Parts.{Part, part-self, part-trans, part-solid, part-length, each-of, children-part}
+use Rattle.model.proofs.Cubes.{in-shown, apart-none}
+use Rattle.model.proofs.Parts.{Part, part-self, part-trans, part-solid, part-length, children-part}
 
 -- the headers of cubes that begin alike
 any-first : (x : Code) (qs : List Cube) (b : Bool) (h : Header) → anyHolds (map (λ q. x ∷ q) qs) (b ∷ h) ≡ admits x b && anyHolds qs h
@@ -76,12 +75,6 @@ in-children (x ∷ p) (y ∷ c) (b ∷ h) e =
         ≡ cond g (admits (other y) b && holds p h || admits y b && anyHolds (children p c) h) (admits x b && anyHolds (children p c) h)
     go true = ap (λ (t : Bool). admits (other y) b && holds p h || t) (any-first y (children p c) b h)
     go false = any-first x (children p c) b h
-
-pub children-solid : (p c : Cube) → shares p c ≡ true → All (λ q. solid q ≡ true) (children p c)
-children-solid p c e = each-of (λ q. solid q ≡ true) (λ q s. part-solid s whole) (children p c) (children-part p c)
-  where
-    whole : solid p ≡ true
-    whole = in-solid p (shown (meet p c)) (and-left (holds p (shown (meet p c))) (holds c (shown (meet p c))) (shares-shown p c e))
 
 -- the headers of a difference, by whether its first cut is met
 less-more : (m n k : Bool) → m && not (n || k) ≡ m && not n && not k

@@ -5,7 +5,7 @@
 --   agree                    so it is, whatever t tells
 --   OneResult a, same-result the same of a contract that says only that the result is a
 --   SameStretch r r′         == the references r and r′ hand back the same bytes at the same place
---   cube-meet-agrees, .. , read-on-agrees    so each public call has one outcome
+--   cube-meet-agrees, .. , permit-empty-agrees    so each public call has one outcome
 use Prim.Native.Nat.{ℕ}
 use mathlib.Core.Path.{_≡_, refl, sym, ap, ap₂, _∙_}
 use mathlib.Core.List.{List}
@@ -17,7 +17,9 @@ use Rattle.format.specs.Calls.{cube-meet, cube-in, Which, first, second, neithe
 use Rattle.format.specs.Calls as calls
 use Rattle.cube.specs.Call.{WiderIs}
 use Rattle.region.specs.declared.steps.Step.{Step}
+use Rattle.region.specs.declared.reader.Reader.{Reader}
 use Rattle.region.specs.Viewing.{StretchIs, stepped}
+use Rattle.region.specs.Stepping.{begun, turned}
 
 pub record Permitted (t : Told) (old : List ℕ) (r : Answer) (new : List ℕ) : Type 0 where
   pub answer : r ≡ t .answer
@@ -107,3 +109,19 @@ view-agrees s d i r r′ p q =
 pub read-on-agrees : (s : List ℕ) (place : ℕ) (r r′ : Step) → stepped r ≡ read-on s place → stepped r′ ≡ read-on s place → r ≡ r′
 read-on-agrees s place r r′ p q =
     ap {B = Step} (λ (x : calls.Step). record { answer = x .answer; place = x .place }) (same-result (read-on s place) (stepped r) (stepped r′) p q)
+
+pub first-step-agrees : (s : List ℕ) (r r′ : Step) → stepped r ≡ read-on s 0 → stepped r′ ≡ read-on s 0 → r ≡ r′
+first-step-agrees s = read-on-agrees s 0
+
+pub begin-reading-agrees : (file : RefT (List ℕ)) → OneResult (begun file)
+begin-reading-agrees file = same-result _
+
+pub step-on-agrees : (reader : Reader) → OneResult (turned reader)
+step-on-agrees reader = same-result _
+
+-- the C host's functions
+pub permit-member-agrees : (s h : List ℕ) → OneResult (region-member s h .answer)
+permit-member-agrees = region-member-agrees
+
+pub permit-empty-agrees : (s : List ℕ) (n : ℕ) (old : List ℕ) → OneOutcome (region-empty s n (length old)) old
+permit-empty-agrees = region-empty-agrees

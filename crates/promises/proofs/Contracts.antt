@@ -12,7 +12,7 @@ use denote.Ref.{now}
 use denote.Triple.Clauses.{AtExit}
 use borrow.Fn.Kind.{PK, RK}
 use borrow.Fn.Kinds.{In, Out, Dens, resT, endedOf}
-use Rattle.format.specs.Calls.{cube-meet, cube-in, wider-number, diff-member, region-member, view, read-on, diff-empty, region-empty, diff-in, ceiling-of}
+use Rattle.format.specs.Calls.{cube-meet, cube-in, wider-number, diff-member, region-member, region-tidy, diff-intersect, region-intersect, diff-less, region-less, view, read-on, diff-empty, region-empty, diff-in, ceiling-of, prefix, equal-fields}
 use Rattle.cube.specs.Call.{WiderIs}
 use Rattle.region.specs.Viewing.{StretchIs, stepped}
 use Rattle.cube.proofs.cube_meet.Kinds as cube-meet-kinds
@@ -33,6 +33,8 @@ use Rattle.region.proofs.view_number.Kinds as view-number-kinds
 use Rattle.region.proofs.view_number.Reads as view-number-contract
 use Rattle.region.proofs.read_on.Kinds as read-on-kinds
 use Rattle.region.proofs.read_on.Reads as read-on-contract
+use Rattle.region.proofs.first_step.Kinds as first-step-kinds
+use Rattle.region.proofs.first_step.Reads as first-step-contract
 use Rattle.walk.proofs.diff_empty.Kinds as diff-empty-kinds
 use Rattle.walk.proofs.diff_empty.Reads as diff-empty-contract
 use Rattle.walk.proofs.region_empty.Kinds as region-empty-kinds
@@ -41,6 +43,20 @@ use Rattle.walk.proofs.«diff_in».Kinds as diff-in-kinds
 use Rattle.walk.proofs.«diff_in».Reads as diff-in-contract
 use Rattle.walk.proofs.ceiling.Kinds as ceiling-kinds
 use Rattle.walk.proofs.ceiling.Reads as ceiling-contract
+use Rattle.algebra.proofs.region_tidy.Kinds as region-tidy-kinds
+use Rattle.algebra.proofs.region_tidy.Reads as region-tidy-contract
+use Rattle.algebra.proofs.diff_intersect.Kinds as diff-intersect-kinds
+use Rattle.algebra.proofs.diff_intersect.Reads as diff-intersect-contract
+use Rattle.algebra.proofs.region_intersect.Kinds as region-intersect-kinds
+use Rattle.algebra.proofs.region_intersect.Reads as region-intersect-contract
+use Rattle.algebra.proofs.diff_less.Kinds as diff-less-kinds
+use Rattle.algebra.proofs.diff_less.Reads as diff-less-contract
+use Rattle.algebra.proofs.region_less.Kinds as region-less-kinds
+use Rattle.algebra.proofs.region_less.Reads as region-less-contract
+use Rattle.algebra.proofs.prefix.Kinds as prefix-kinds
+use Rattle.algebra.proofs.prefix.Reads as prefix-contract
+use Rattle.algebra.proofs.equal_fields.Kinds as equal-fields-kinds
+use Rattle.algebra.proofs.equal_fields.Reads as equal-fields-contract
 use Rattle.broker.proofs.permit_member.Kinds as permit-member-kinds
 use Rattle.broker.proofs.permit_member.Reads as permit-member-contract
 use Rattle.broker.proofs.permit_empty.Kinds as permit-empty-kinds
@@ -89,6 +105,10 @@ pub read-on-promise : Promise 1 read-on-kinds.ps read-on-kinds.r read-on-contrac
     (λ κs a x e. stepped x ≡ read-on (now (a .0)) (a .1 .0))
 read-on-promise = record { anything = λ κs a. tt; permits = λ κs a x e l. l }
 
+pub first-step-promise : Promise 1 first-step-kinds.ps first-step-kinds.r first-step-contract.Asked first-step-contract.Learnt
+    (λ κs a x e. stepped x ≡ read-on (now (a .0)) 0)
+first-step-promise = record { anything = λ κs a. tt; permits = λ κs a x e l. l }
+
 -- walk
 pub diff-empty-promise : Promise 2 diff-empty-kinds.ps diff-empty-kinds.r diff-empty-contract.Asked diff-empty-contract.Learnt
     (λ κs a x e. Permitted (diff-empty (a .0) (now (a .1 .0)) (a .1 .1 .0) (length (now (a .1 .1 .1 .0)))) (now (a .1 .1 .1 .0)) x (now (e .1 .1 .1 .0)))
@@ -105,6 +125,35 @@ diff-in-promise = record { anything = λ κs a. tt; permits = λ κs a x e l. re
 pub ceiling-promise : Promise 1 ceiling-kinds.ps ceiling-kinds.r ceiling-contract.Asked ceiling-contract.Learnt
     (λ κs a x e. x ≡ ceiling-of (a .0) (now (a .1 .0)) .answer)
 ceiling-promise = record { anything = λ κs a. tt; permits = λ κs a x e l. l }
+
+-- algebra
+pub region-tidy-promise : Promise 2 region-tidy-kinds.ps region-tidy-kinds.r region-tidy-contract.Asked region-tidy-contract.Learnt
+    (λ κs a x e. Permitted (region-tidy (now (a .0)) (length (now (a .1 .0)))) (now (a .1 .0)) x (now (e .1 .0)))
+region-tidy-promise = record { anything = λ κs a. tt; permits = λ κs a x e l. record { answer = l .0; buffer = l .1 } }
+
+pub diff-intersect-promise : Promise 3 diff-intersect-kinds.ps diff-intersect-kinds.r diff-intersect-contract.Asked diff-intersect-contract.Learnt
+    (λ κs a x e. Permitted (diff-intersect (a .0) (now (a .1 .0)) (now (a .1 .1 .0)) (length (now (a .1 .1 .1 .0)))) (now (a .1 .1 .1 .0)) x (now (e .1 .1 .1 .0)))
+diff-intersect-promise = record { anything = λ κs a. tt; permits = λ κs a x e l. record { answer = l .0; buffer = l .1 } }
+
+pub region-intersect-promise : Promise 3 region-intersect-kinds.ps region-intersect-kinds.r region-intersect-contract.Asked region-intersect-contract.Learnt
+    (λ κs a x e. Permitted (region-intersect (now (a .0)) (now (a .1 .0)) (length (now (a .1 .1 .0)))) (now (a .1 .1 .0)) x (now (e .1 .1 .0)))
+region-intersect-promise = record { anything = λ κs a. tt; permits = λ κs a x e l. record { answer = l .0; buffer = l .1 } }
+
+pub diff-less-promise : Promise 3 diff-less-kinds.ps diff-less-kinds.r diff-less-contract.Asked diff-less-contract.Learnt
+    (λ κs a x e. Permitted (diff-less (a .0) (now (a .1 .0)) (now (a .1 .1 .0)) (length (now (a .1 .1 .1 .0)))) (now (a .1 .1 .1 .0)) x (now (e .1 .1 .1 .0)))
+diff-less-promise = record { anything = λ κs a. tt; permits = λ κs a x e l. record { answer = l .0; buffer = l .1 } }
+
+pub region-less-promise : Promise 3 region-less-kinds.ps region-less-kinds.r region-less-contract.Asked region-less-contract.Learnt
+    (λ κs a x e. Permitted (region-less (now (a .0)) (now (a .1 .0)) (length (now (a .1 .1 .0)))) (now (a .1 .1 .0)) x (now (e .1 .1 .0)))
+region-less-promise = record { anything = λ κs a. tt; permits = λ κs a x e l. record { answer = l .0; buffer = l .1 } }
+
+pub prefix-promise : Promise 2 prefix-kinds.ps prefix-kinds.r prefix-contract.Asked prefix-contract.Learnt
+    (λ κs a x e. Permitted (prefix (a .0) (a .1 .0) (a .1 .1 .0) (a .1 .1 .1 .0) (now (a .1 .1 .1 .1 .0)) (length (now (a .1 .1 .1 .1 .1 .0)))) (now (a .1 .1 .1 .1 .1 .0)) x (now (e .1 .1 .1 .1 .1 .0)))
+prefix-promise = record { anything = λ κs a. tt; permits = λ κs a x e l. record { answer = l .0; buffer = l .1 } }
+
+pub equal-fields-promise : Promise 1 equal-fields-kinds.ps equal-fields-kinds.r equal-fields-contract.Asked equal-fields-contract.Learnt
+    (λ κs a x e. Permitted (equal-fields (a .0) (a .1 .0) (a .1 .1 .0) (a .1 .1 .1 .0) (length (now (a .1 .1 .1 .1 .0)))) (now (a .1 .1 .1 .1 .0)) x (now (e .1 .1 .1 .1 .0)))
+equal-fields-promise = record { anything = λ κs a. tt; permits = λ κs a x e l. record { answer = l .0; buffer = l .1 } }
 
 -- broker
 pub permit-member-promise : Promise 2 permit-member-kinds.ps permit-member-kinds.r permit-member-contract.Asked permit-member-contract.Learnt

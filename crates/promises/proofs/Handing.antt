@@ -6,10 +6,10 @@
 --   view-nothing             a view whose number is not 1 is a stretch of length 0
 --   read-on-next, read-on-last, read-on-refused, read-on-wide    a step at an accepted record, at the file's end, at a refused record, and in a file
 --                            whose kind 1 record is refused
-use Prim.Native.Nat.{ℕ, zero, suc, _≤_, _<_}
+use Prim.Native.Nat.{ℕ, _≤_, _<_}
 use native.Mathlib.Omega.{arith}
 use mathlib.Core.Path.{_≡_, refl, sym, ap, _∙_}
-use mathlib.Core.List.{List, [], _∷_, map}
+use mathlib.Core.List.{List, []}
 use mathlib.Core.Logic.{_↔_}
 use mathlib.Core.Bool.{Bool, true, false, cond, _||_}
 use lib.ListN.{length, getD, length-map}
@@ -23,9 +23,9 @@ use Rattle.format.specs.Records.{countAt, nextAt, widthOf, widthFault, differen
 use Rattle.format.specs.Files.{readFile, faultNumber, faultOffset, offsets, regionIn}
 use Rattle.format.specs.Calls.{first, second, neither, wider, wider-number, Viewed, view, unseen, stay, startOf, read-on}
 use Rattle.format.proofs.Reached.{reached, each}
-use Rattle.format.proofs.Recording.{Record, record-of, cuts-count}
-use Rattle.format.proofs.Filing.{Listed, ended, listed, file-of}
-use Rattle.format.proofs.Viewing.{differenceOf}
+use Rattle.format.proofs.Recording.{record-of, cuts-count}
+use Rattle.format.proofs.Filing.{file-of}
+use Rattle.format.proofs.Viewing.{differenceOf, map-at, listed-at}
 use Rattle.promises.proofs.Answering.{Cubes, Accepted, wider-number-answers}
 
 -- the wider of two cubes
@@ -76,16 +76,6 @@ pub record Indexed (s : List ℕ) (d i : ℕ) : Type 0 where
   pub file : Accepted s
   pub difference : d < length (regionIn s)
   pub index : i ≤ length (differenceOf (regionIn s) d .cuts)
-
-map-at : {A : Type 0} (f : ℕ → A) (os : List ℕ) (d : ℕ) (x : A) → d < length os → getD (map f os) d x ≡ f (getD os d 0)
-map-at f [] d x h = absurd (omega arith)
-map-at f (o ∷ os) zero x h = refl
-map-at f (o ∷ os) (suc d) x h = map-at f os d x (omega arith)
-
-listed-at : {w : ℕ} {s : List ℕ} {at n : ℕ} {os : List ℕ} → Listed w s at n os → (d : ℕ) → d < length os → (m : ℕ) × Record false w m s (getD os d 0)
-listed-at (ended h) d l = absurd (omega arith)
-listed-at (listed {n = n} r rest) zero l = (n, r)
-listed-at (listed r rest) (suc d) l = listed-at rest d (omega arith)
 
 module _ (s : List ℕ) (d i : ℕ) where
   cuts-at : Accepted s → d < length (offsets (readFile s)) → length (differenceOf (regionIn s) d .cuts) ≡ countAt s (getD (offsets (readFile s)) d 0)

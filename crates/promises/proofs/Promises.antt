@@ -12,12 +12,14 @@
 --   Written, WrittenCube  == bytes that are accepted again, and hold that region or cube (format's Rewriting)
 --   Decides w n In v Ok x == demand 3 (Emptiness); Shown w In x == the bytes written are a header that is in (format's Asking)
 --   Indexed, Seen, Onward == there is such a cube (Handing); a view's stretch, a step of reading on (format's Viewing)
-use Prim.Native.Nat.{ℕ, _-_, _/_, _%_, _*_, _^_, _≤_, _<_}
+--   answers, told         == the answers of some steps of reading on, of some steps of a reader (region/specs/Stepping, with recordsBefore)
+use Prim.Native.Nat.{ℕ, _+_, _-_, _/_, _%_, _*_, _^_, _≤_, _<_}
 use mathlib.Core.Path.{_≡_}
-use mathlib.Core.List.{List, [], _∷_}
+use mathlib.Core.List.{List, [], _∷_, _++_, map}
 use mathlib.Core.Logic.{_↔_, _⊎_}
 use mathlib.Core.Bool.{true, false, cond, not, _&&_, _||_}
-use lib.ListN.{length, getD, take, drop}
+use lib.ListN.{length, getD, take, drop, replicate}
+use denote.Ref.{now}
 use Rattle.model.specs.Cube.{Header, none, holds, meet, shares, within}
 use Rattle.model.specs.Difference.{inDifference, inRegion}
 use Rattle.model.specs.Tidy.{tidy, tidyRegion}
@@ -31,7 +33,7 @@ use Rattle.format.specs.Rows.{Rows, outcome}
 use Rattle.format.specs.Limits.{mostInput}
 use Rattle.format.specs.Bytes.{Bytes, headerLen, cubeLen, bitOf, bits, readHeader, codeOf, codes, readCube, writeCube}
 use Rattle.format.specs.Records.{nextAt, widthOf, widthFault, differenceAt, differenceFault, differenceBytes, fileBytes}
-use Rattle.format.specs.Files.{readFile, faultNumber, faultOffset, regionIn}
+use Rattle.format.specs.Files.{refused, whole, readFile, faultNumber, faultOffset, regionIn}
 use Rattle.format.specs.Told.{Told, silent, deciding}
 use Rattle.format.specs.Calls.{cube-meet, cube-in, first, second, neither, wider, wider-number, diff-member, region-member, region-tidy, diff-intersect, region-intersect, diff-less, region-less, diff-empty, region-empty, diff-in, ceiling-of, prefix, equal-fields, unseen, view, stay, startOf, read-on, question}
 use Rattle.format.proofs.Reached.{Reaches, nth}
@@ -46,12 +48,23 @@ use Rattle.format.proofs.Deciding.{Lent}
 use Rattle.format.proofs.Deciding
 use Rattle.format.proofs.Viewing.{Seen, Onward}
 use Rattle.format.proofs.Viewing
-pub use Rattle.format.proofs.Figures.{figures}
+use Rattle.region.specs.declared.reader.Reader.{Reader}
+use Rattle.region.specs.Stepping.{answers, told, recordsBefore}
+use Rattle.region.proofs.Stepping
+pub use Rattle.model.proofs.Cubes.{in-meet, shares-shown, apart-none, within-in, within-out}
+pub use Rattle.model.proofs.Tidying.{in-tidyRegion, tidy-tidy}
+pub use Rattle.model.proofs.Setting.{in-intersection, in-intersections, in-subtraction, in-subtractions, restored-back}
+pub use Rattle.model.proofs.Field.{in-prefix, in-equal}
+pub use Rattle.model.proofs.Walking.{in-children, survivor-in, survivor-solid, survivor-shown, nothing-in, region-survivor-in, region-survivor-shown, region-nothing-in, walk-positive}
+pub use Rattle.model.proofs.Including.{inclusion-nothing, inclusion-survivor}
+pub use Rattle.model.proofs.Bound.{pieces-at-most-ceiling}
+pub use Rattle.model.proofs.Allowed.{decided-when, undecided-when}
 pub use Rattle.model.proofs.Slips.{slips}
+pub use Rattle.format.proofs.Figures.{figures}
 use Rattle.promises.proofs.Agreement.{Permitted, OneOutcome}
 use Rattle.promises.proofs.Agreement
-pub use Rattle.promises.proofs.Agreement.{cube-meet-agrees, cube-in-agrees, wider-agrees, wider-number-agrees, diff-member-agrees, region-member-agrees, diff-intersect-agrees, region-intersect-agrees, diff-less-agrees, region-less-agrees, diff-empty-agrees, region-empty-agrees, diff-in-agrees, ceiling-agrees, region-tidy-agrees, prefix-agrees, equal-fields-agrees, view-agrees, view-number-agrees, read-on-agrees}
-pub use Rattle.promises.proofs.Contracts.{cube-meet-promise, cube-in-promise, wider-promise, wider-number-promise, diff-member-promise, region-member-promise, view-promise, view-number-promise, read-on-promise, diff-empty-promise, region-empty-promise, diff-in-promise, ceiling-promise, permit-member-promise, permit-empty-promise}
+pub use Rattle.promises.proofs.Agreement.{cube-meet-agrees, cube-in-agrees, wider-agrees, wider-number-agrees, diff-member-agrees, region-member-agrees, diff-intersect-agrees, region-intersect-agrees, diff-less-agrees, region-less-agrees, diff-empty-agrees, region-empty-agrees, diff-in-agrees, ceiling-agrees, region-tidy-agrees, prefix-agrees, equal-fields-agrees, view-agrees, view-number-agrees, read-on-agrees, first-step-agrees, begin-reading-agrees, step-on-agrees, permit-member-agrees, permit-empty-agrees}
+pub use Rattle.promises.proofs.Contracts.{cube-meet-promise, cube-in-promise, wider-promise, wider-number-promise, diff-member-promise, region-member-promise, view-promise, view-number-promise, read-on-promise, first-step-promise, diff-empty-promise, region-empty-promise, diff-in-promise, ceiling-promise, region-tidy-promise, diff-intersect-promise, region-intersect-promise, diff-less-promise, region-less-promise, prefix-promise, equal-fields-promise, permit-member-promise, permit-empty-promise}
 use Rattle.promises.proofs.Quiet.{Kept, Unwritten}
 use Rattle.promises.proofs.Quiet
 use Rattle.promises.proofs.Answering.{Tells, yesNo, writes, Cubes, Bits, Accepted, Writable, Prefixed, Fields}
@@ -61,10 +74,16 @@ use Rattle.promises.proofs.Handing
 use Rattle.promises.proofs.Emptiness.{Decides, ceilings}
 use Rattle.promises.proofs.Emptiness
 
+-- THE MODEL. What document 01 claims of headers, cubes, differences and the walk, each claim once over the width, passed on above: the set meaning of the meet
+-- and of lying in (`in-meet`, .. , `within-out`), of tidying, intersection, subtraction, prefix and equality (`in-tidyRegion`, .. , `in-equal`); what
+-- survives the walk is in and shows a header, and no survivor means that none is (`in-children`, .. , `inclusion-survivor`); how many pieces there are, and
+-- what an allowance makes of them (`walk-positive`, .. , `undecided-when`). The rest of the page says it of the calls.
+
 -- THE CONTRACTS. `cube-meet-promise`, .. , `permit-empty-promise`, passed on above: each call takes anything, and its contract permits the outcomes of its
 -- definition and no other. That the code meets its contract, and ends, is what proving its crate shows.
 
--- AGREEMENT. "That two permitted outcomes agree is proved". Stated once, and cited for each call by `cube-meet-agrees`, .. , `read-on-agrees`, passed on above.
+-- AGREEMENT. "That two permitted outcomes agree is proved". Stated once, and cited for each call by `cube-meet-agrees`, .. , `permit-empty-agrees`, passed on
+-- above.
 pub two-outcomes-agree : (t : Told) (old : List ℕ) → OneOutcome t old
 two-outcomes-agree = Agreement.agree
 
@@ -434,6 +453,23 @@ read-on-refused = Handing.read-on-refused
 
 pub read-on-width-refused : (s : List ℕ) (place : ℕ) → (widthFault s ≡ 0 → ⊥) → read-on s place ≡ stay (fault (widthFault s) 1 0) place
 read-on-width-refused = Handing.read-on-wide
+
+-- Step after step: each difference of an accepted file once, in order, at its record's offset, and then 2 for ever; of a refused file the differences
+-- before the refused record, and then that refusal for ever. "Records are not counted, so 19 is not given": a file that is refused with 19 is read on past
+-- its 256th difference.
+pub accepted-steps : (s : List ℕ) {os : List ℕ} → readFile s ≡ whole os → (m : ℕ) → answers (length os + m) s 0 ≡ map placed os ++ replicate m (said 2)
+accepted-steps = Stepping.accepted-steps
+
+pub passed-steps : (s : List ℕ) {f at : ℕ} → readFile s ≡ refused f at → answers (length (recordsBefore s at)) s 0 ≡ map placed (recordsBefore s at)
+passed-steps = Stepping.passed-steps
+
+pub refused-steps : (s : List ℕ) {f at : ℕ} → readFile s ≡ refused f at → (f ≡ 19 → ⊥) → (m : ℕ)
+    → answers (length (recordsBefore s at) + m) s 0 ≡ map placed (recordsBefore s at) ++ replicate m (fault f 1 at)
+refused-steps = Stepping.refused-steps
+
+-- The reader's steps are those of reading on in its file from its place; a reader that begins is at place 0.
+pub reader-steps : (n : ℕ) (r : Reader) → told n r ≡ answers n (now (r .file)) (r .place)
+reader-steps = Stepping.told-answers
 
 -- THE FIGURES. "Cases P1 to P10 are proved about the definitions, as one list under a single theorem": `figures`, passed on above; and `slips`, the trainees'
 -- slips 1, 2 and 5, each as the answer that it gets wrong.

@@ -87,12 +87,6 @@ first-is (x ∷ p) [] i e h o n = absurd (omega arith)
 first-is (x ∷ p) (y ∷ c) zero e h o n = rw o
 first-is (x ∷ p) (y ∷ c) (suc i) e h o n = rw (n 0 (omega arith)) (ap suc (first-is p c i (omega arith) (omega arith) o (λ j k. n (suc j) (omega arith))))
 
-pub first-none : (p c : Cube) → length p ≡ length c → ((j : ℕ) → j < length p → opens (getD p j none) (getD c j none) ≡ false) → length p ≡ firstOpen p c
-unfolding firstOpen
-first-none [] c e n = refl
-first-none (x ∷ p) [] e n = absurd (omega arith)
-first-none (x ∷ p) (y ∷ c) e n = rw (n 0 (omega arith)) (ap suc (first-none p c (omega arith) (λ j k. n (suc j) (omega arith))))
-
 -- what stands before it does not open
 pub before-first : (p c : Cube) (j : ℕ) → length p ≡ length c → j < firstOpen p c → opens (getD p j none) (getD c j none) ≡ false
 unfolding firstOpen

@@ -15,7 +15,7 @@ use Rattle.model.proofs.Padding.{pad}
 use Rattle.format.specs.Bytes.{codeOf}
 use Rattle.walk.specs.Opening.{bit}
 use Rattle.walk.specs.Cuts.{cutAt}
-use Rattle.walk.specs.Words.{row, wide}
+use Rattle.walk.specs.Words.{row}
 use Rattle.walk.specs.Alive.{digit, clash}
 
 unfoldable pub padded : ℕ → List ℕ → List ℕ
