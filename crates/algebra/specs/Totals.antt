@@ -1,4 +1,5 @@
 -- The whole result of an operation, and what is counted of it and written.
+--   stepsBy n next end x  == at most n of the numbers of the next line
 --   steps next end x      == the numbers from x on, each by `next` from the one before, that are below `end`
 --   stops o q t x         == where the operation o stops in the second operand, from an offset on
 --   gather f xs           == the regions that f makes of xs, one after another

@@ -10,6 +10,8 @@ ghost use Rattle.algebra.specs.Results.{wholeRows, Begins, Tells};
 use super::result::write_region;
 use super::stop::Operation;
 use answer::Answer;
+use cube::WIDEST;
+use region::FIRST;
 use region::check_file;
 use region::difference_fault;
 
@@ -22,7 +24,7 @@ pub fn region_tidy(s: &[u8], out: &mut [u8]) -> Answer
     if file.number != 0 {
         return Answer::fault(file.number, 1, file.offset);
     }
-    write_region(Operation::Tidy, file.width, s, 6, s, 0, out)
+    write_region(Operation::Tidy, file.width, s, FIRST, s, 0, out)
 }
 
 // Reads two single records of one width, and does the operation.
@@ -40,7 +42,7 @@ fn of_records(
     if w == 0 {
         return Answer::said(10);
     }
-    if 320 < w {
+    if WIDEST < w {
         return Answer::said(10);
     }
     let first = difference_fault(s, 0, w, 0, true);
@@ -86,7 +88,7 @@ pub fn region_intersect(s: &[u8], t: &[u8], out: &mut [u8]) -> Answer
     if first.width != second.width {
         return Answer::said(20);
     }
-    write_region(Operation::Intersect, first.width, s, 6, t, 6, out)
+    write_region(Operation::Intersect, first.width, s, FIRST, t, FIRST, out)
 }
 
 // Writes the headers that are in the region and not in the difference, as a tidied region file.
@@ -102,5 +104,5 @@ pub fn region_less(s: &[u8], t: &[u8], out: &mut [u8]) -> Answer
     if wrong != 0 {
         return Answer::fault(wrong, 2, 0);
     }
-    write_region(Operation::Less, file.width, s, 6, t, 5, out)
+    write_region(Operation::Less, file.width, s, FIRST, t, 5, out)
 }

@@ -16,6 +16,7 @@ use super::code::fill;
 use super::code::set_code;
 use super::put::put_front;
 use answer::Answer;
+use cube::WIDEST;
 use cube::cube_len;
 use cube::header_fault;
 
@@ -54,7 +55,7 @@ pub fn prefix(w: usize, s: usize, n: usize, m: usize, value: &[u8], out: &mut [u
     if w == 0 {
         return Answer::said(10);
     }
-    if 320 < w {
+    if WIDEST < w {
         return Answer::said(10);
     }
     if n == 0 {
@@ -144,7 +145,7 @@ pub fn equal_fields(w: usize, p: usize, q: usize, n: usize, out: &mut [u8]) -> A
     if w == 0 {
         return Answer::said(10);
     }
-    if 320 < w {
+    if WIDEST < w {
         return Answer::said(10);
     }
     if n == 0 {

@@ -11,6 +11,8 @@ use super::run::run;
 use super::stop::Operation;
 use answer::Answer;
 use cube::cube_len;
+use region::FIRST;
+use region::MOST_DIFFERENCES;
 
 // Runs the operation with no room, so that it only measures; then, if nothing is to be refused, once more over the buffer behind kind 1.
 pub(crate) fn write_region(
@@ -30,14 +32,14 @@ pub(crate) fn write_region(
     if sum.long {
         return Answer::said(18);
     }
-    if 256 < sum.count {
+    if MOST_DIFFERENCES < sum.count {
         return Answer::said(19);
     }
-    let size = sum.size + 6;
+    let size = sum.size + FIRST;
     if out.len() < size {
         return Answer::said(22);
     }
     put_width(out, w);
-    run(operation, q, s, a, t, x, &mut out[6..]);
+    run(operation, q, s, a, t, x, &mut out[FIRST..]);
     Answer::wrote(size)
 }

@@ -15,6 +15,8 @@ use super::put::put_front;
 use super::stop::Operation;
 use super::stop::stop_at;
 use super::tidying::Made;
+use region::MOST_CUTS;
+use region::MOST_DIFFERENCES;
 use region::next_at;
 
 // What is counted of a result: whether a difference has too many cuts, how many differences there are, and the bytes of their records. A result with
@@ -48,14 +50,14 @@ fn add(made: Made, q: usize, buf: &mut [u8], out: &mut [u8], sum: Totals) -> Tot
     let Made::Kept(k) = made else {
         return sum;
     };
-    if 64 < k {
+    if MOST_CUTS < k {
         return Totals {
             long: true,
             count: sum.count,
             size: sum.size,
         };
     }
-    if 256 < sum.count {
+    if MOST_DIFFERENCES < sum.count {
         return sum;
     }
     Totals {

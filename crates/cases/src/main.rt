@@ -101,21 +101,30 @@ fn tell_step(case: &[u8], s: &[u8], place: usize) {
     put(b"\n");
 }
 
-fn cubes() {
+fn cubes_lent() {
     tell(b"A2   ", cube::cube_in(4, &[0x9f], &[]));
     tell(b"A5b  ", cube::cube_in(321, &[], &[]));
     tell(b"A6d  ", cube::cube_in(3, &[0xfc], &[255]));
+}
+
+fn cubes_met() {
     tell_meet(b"A9   ", 4, &[0xbf], &[0x7f], &mut []);
     tell_meet(b"A9   ", 4, &[0xbf], &[0xdf], &mut []);
     tell_meet(b"A9   ", 4, &[0xbf], &[0xdf], &mut [0]);
+}
+
+fn cubes_wide() {
     tell(b"A15  ", cube::cube_in(0, &[], &[]));
     tell(b"A15  ", cube::cube_in(65540, &[255], &[255]));
+}
+
+fn cubes_wider() {
     tell_wider(b"A24  ", 4, &[0xbf], &[0xbf]);
     tell_wider(b"A24  ", 4, &[0xb7], &[0x9f]);
     tell(b"P3   ", cube::cube_in(2, &[0x50], &[0x5f]));
 }
 
-fn members() {
+fn members_lent() {
     tell(b"A8b  ", region::region_member(&AFTER, &[0]));
     tell(b"A16  ", region::diff_member(4, &[], &[]));
     tell(
@@ -123,10 +132,16 @@ fn members() {
         region::diff_member(4, &[4, 0, 2, 0, 0, 255], &[8]),
     );
     tell(b"A7   ", region::diff_member(4, &WIDTH, &[0]));
+}
+
+fn members_long() {
     tell(b"A6   ", region::diff_member(4, &[3, 0, 2, 0, 65, 0], &[0]));
     tell(b"A6b  ", region::diff_member(4, &[1, 0], &[0]));
     tell(b"A6b  ", region::diff_member(4, &[1, 0, 2], &[0]));
     tell(b"A6b  ", region::diff_member(4, &[2, 0, 3, 0], &[0]));
+}
+
+fn members_held() {
     tell(
         b"A6c  ",
         region::diff_member(3, &[5, 0, 2, 0, 1, 0xfe, 0x0f], &[0]),
@@ -153,17 +168,23 @@ fn views() {
     tell_view(b"A25  ", &ANY, 1, 0);
 }
 
-fn steps() {
+fn steps_first() {
     tell_step(b"A1   ", &[], 0);
     tell_step(b"A5   ", &ANY, 0);
     tell_step(b"A8b  ", &AFTER, 0);
     tell_step(b"A26  ", &WIDTH, 0);
     tell_step(b"A26  ", &[4, 0, 1, 0, 4, 0, 2, 0, 2, 0], 0);
+}
+
+fn steps_within() {
     tell_step(b"A27  ", &ANY, 1);
     tell_step(b"A27  ", &ANY, 2);
     tell_step(b"A27  ", &ANY, 3);
     tell_step(b"A27  ", &ANY, 4);
     tell_step(b"A27  ", &ANY, 5);
+}
+
+fn steps_beyond() {
     tell_step(b"A28  ", &WIDTH, 7);
     tell_step(b"A29  ", &[4, 0, 1, 0, 0, 0], 6);
     tell_step(b"A29  ", &[4, 0, 2, 0, 0, 255], 99);
@@ -223,7 +244,7 @@ fn tell_in(case: &[u8], w: usize, s: &[u8], t: &[u8], allowance: u32) {
     tell_header(case, a, &header);
 }
 
-fn walks() {
+fn walks_covered() {
     tell_empty(b"P4   ", 4, &[5, 0, 2, 0, 1, 255, 0x9f], 9);
     tell(b"P4   ", walk::ceiling(4, &[5, 0, 2, 0, 1, 255, 0x9f]));
     tell_empty(b"P5   ", 2, &[6, 0, 2, 0, 2, 255, 0xbf, 0x7f], 9);
@@ -231,14 +252,23 @@ fn walks() {
         b"P5   ",
         walk::ceiling(2, &[6, 0, 2, 0, 2, 255, 0xbf, 0x7f]),
     );
+}
+
+fn walks_undecided() {
     tell_empty(b"P6   ", 2, &[6, 0, 2, 0, 2, 255, 0xbf, 0x7f], 1);
     tell_empty(b"P7   ", 2, &[7, 0, 2, 0, 3, 255, 0x5f, 0x6f, 0x9f], 9);
     tell(
         b"P7   ",
         walk::ceiling(2, &[7, 0, 2, 0, 3, 255, 0x5f, 0x6f, 0x9f]),
     );
+}
+
+fn walks_passed() {
     tell_empty(b"A31  ", 2, &[6, 0, 2, 0, 2, 0xbf, 0x5f, 0x6f], 99);
     tell_empty(b"A32  ", 2, &[6, 0, 2, 0, 2, 255, 0xbf, 0x7f], 2);
+}
+
+fn walks_regions() {
     tell_region(b"A33  ", &WIDTH, 0);
     tell_region(b"A33  ", &[4, 0, 1, 0, 4, 0, 5, 0, 2, 0, 1, 255, 255], 0);
     tell_region(
@@ -268,12 +298,18 @@ fn walks() {
         1,
     );
     tell(b"A10  ", walk::region_empty(&WIDTH, 0, &mut []));
+}
+
+fn ceilings() {
     tell(b"A34  ", walk::ceiling(2, &[5, 0, 2, 0, 1, 0xbf, 0xaf]));
     tell(
         b"A34  ",
         walk::ceiling(2, &[6, 0, 2, 0, 2, 255, 0xbf, 0xbf]),
     );
     tell(b"A34  ", walk::ceiling(2, &[6, 0, 2, 0, 2, 255, 255, 0xaf]));
+}
+
+fn inclusions() {
     tell_in(
         b"A18  ",
         2,
@@ -285,10 +321,22 @@ fn walks() {
 }
 
 fn main() {
-    cubes();
-    members();
+    cubes_lent();
+    cubes_met();
+    cubes_wide();
+    cubes_wider();
+    members_lent();
+    members_long();
+    members_held();
     views();
-    steps();
+    steps_first();
+    steps_within();
+    steps_beyond();
     full();
-    walks();
+    walks_covered();
+    walks_undecided();
+    walks_passed();
+    walks_regions();
+    ceilings();
+    inclusions();
 }

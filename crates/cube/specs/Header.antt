@@ -1,4 +1,5 @@
 -- Header bytes.
+--   bitsRows n used bs    == the tests of the next line
 --   bitsFault n used bs   == what is wrong with the bytes of n positions of which the first `used` may be set: 11, or 0
 --   spelledCube bs        == the cube of the widest header that fixes each bit of bs, and 0 where bs has none
 -- Assumes nothing: these are definitions.

@@ -1,15 +1,20 @@
 -- What the bytes of a header and of a cube mean.
 --   Bytes bs                    == every number of bs is a byte
 --   headerLen w, cubeLen w      == how many bytes a header and a cube of w positions take
+--   bitOf n                     == whether a number is not 0
 --   bits bs                     == the bits of bytes, eight to a byte, the one of weight 128 first
 --   readHeader w bs             == the header of w positions in bs
+--   weigh n b, octet h          == n where b is set, else 0; the byte of the first eight bits
+--   headerBytes n h             == the first n bytes of a header
 --   writeHeader h               == the bytes of the header h, unused bits zero
 --   anyBit bs                   == some bit is set
 --   codeOf n, numberOf x        == the code of a number, the number of a code
 --   codes bs                    == the codes of bytes, four to a byte, the one of weight 64 first
 --   readCube w bs               == the cube of w positions in bs
+--   quad c, cubeBytes n c       == the byte of the first four codes, and the first n bytes of a cube, with 3 where c has no code
 --   writeCube c                 == the bytes of the cube c, unused places 3
---   allFree c                   == every code of c is 3
+--   isFree x, allFree c         == the code x is 3; every code of c is
+--   cubeRows w bs, lentRows w bs == the tests of the two lines below
 --   cubeFault w bs              == what is wrong with the cube of w positions in as many bytes as it takes: 13, 14, or 0
 --   lentFault w bs              == the same of a lent cube, whose length may be wrong: 12, 13, 14, or 0
 -- Assumes nothing: these are definitions.

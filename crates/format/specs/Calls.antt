@@ -2,7 +2,8 @@
 -- writing. "Order: direct W; operand 1; operand 2; 20; header, field (21 before 11) or index; then 18 if any difference of the tidied result has too
 -- many cuts, 19, 22."
 --   cube-meet, cube-in                  == two cubes: the cube of their common headers; whether the first lies in the second
---   wider                               == the wider of two cubes, and the number of the separate question
+--   Which                               == what `wider` hands back: the first cube, the second, or neither
+--   wider, wider-number                 == the wider of two cubes, and the number of the separate question
 --   diff-member, region-member          == whether a header is in
 --   diff-intersect, region-intersect    == the headers that are in both
 --   diff-less, region-less              == the headers that are in the first and not in the difference
@@ -12,7 +13,10 @@
 --   region-tidy                         == the region tidied
 --   prefix                              == the cube of a prefix constraint
 --   equal-fields                        == the difference of equality of fields
+--   Viewed, unseen a                    == a view's number and its stretch of the file; the answer a with a stretch of length 0
 --   view                                == a cube by difference and index, as a stretch of the file, and the number of the separate question
+--   Step, stay a place                  == a step's answer and the next place; the answer a with the same place
+--   startOf place                       == where a step looks for a record
 --   read-on                             == one step of reading on, and the next place
 --   question                            == what the question program tells of its input
 -- Assumes nothing: these are definitions.

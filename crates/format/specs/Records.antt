@@ -7,10 +7,13 @@
 --   cubesAt w s at k         == the k cubes from an offset on
 --   differenceAt w s at      == the difference whose kind 2 record stands at an offset
 --   cubesFault w s at k      == what is wrong with the first bad one of k cubes from an offset on, or 0
+--   widthOf s                == the W that the kind 1 record at the start of s states
+--   bytesAfter alone s at    == how many bytes follow the record, where none may
+--   recordRows, widthRows, differenceRows == the tests of a record up to its kind, and the whole tests of the two kinds
 --   widthFault s             == what is wrong with the kind 1 record at the start of s, or 0
 --   differenceFault alone w n s at == what is wrong with the kind 2 record at an offset, with n differences before it, or 0; `alone`: it is a
 --                               single record, and nothing may follow it
---   u16Bytes n, cubesBytes, differenceBytes w d, widthBytes w, fileBytes w r == what is written
+--   u16Bytes n, cubesBytes, differenceBytes w d, differencesBytes w r, widthBytes w, fileBytes w r == what is written
 -- Assumes nothing: these are definitions.
 use Prim.Native.Nat.{ℕ, zero, suc, _+_, _-_, _*_, _/_, _%_}
 use mathlib.Core.List.{List, [], _∷_, _++_}

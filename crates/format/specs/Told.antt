@@ -4,9 +4,13 @@
 --   silent a        == the result a, and nothing is written
 --   wide w k        == the table k, after the tests of a width given directly
 --   lentCube, lentRecord, lentFile == the table k, after the tests of an operand
+--   lentBits n used bs k == the table k, after the tests of the bytes of n positions of which the first `used` may be set
 --   lentHeader w h k == the table k, after the tests of a header of w positions
+--   yesOr b         == yes where b is true, else no
 --   writing bs room == the bytes bs are to be written into a buffer of that room
+--   anyLong r       == some difference of r has more cuts than may be written
 --   writingRegion w r room == the tidied region r is to be written
+--   deciding w d           == what the decision d of a walk tells, with the header that it shows
 --   walking w n room v     == the walk v is answered with the allowance n, into a header buffer of that room
 -- Assumes nothing: these are definitions.
 use Prim.Native.Nat.{ℕ}

@@ -4,11 +4,16 @@
 --   Cube           == the codes of a cube, one for each position; one that a `none` stands in holds no header
 --   admits x b     == the bit b agrees with the code x
 --   holds c h      == the header h is in the cube c
+--   meetCode x y   == the code that admits what both admit
+--   nones c        == as many `none`s as c has positions
 --   meet a b       == the cube of the headers that are in both
+--   coded x        == the code x is not `none`
 --   solid c        == no position of c has the code `none`
 --   shares a b     == a and b have a header in common
+--   sameCode x y   == x and y are the same code
 --   same a b       == a and b are the same cube
 --   within a b     == a lies in b
+--   shownBit x     == the bit that is shown of a code: 1 for the value 1, else 0
 --   shown c        == the header of c with all its free positions 0
 -- Assumes nothing: these are definitions.
 use mathlib.Core.List.{List, [], _∷_}

@@ -4,14 +4,17 @@
 --   children p c    == for each position that c fixes and p leaves free, left to right, the piece to visit
 --   Survivor        == the piece that survived, or nothing
 --   Found           == what a walk comes to: the pieces visited, and what survived
+--   joined n s v    == a walk of n pieces that came to s, and then v if that is nothing
 --   next u v        == the walk u, and then v if nothing survived in u
 --   inTurn f xs     == the walks f of xs, one after another up to the first survivor
+--   counted v       == the walk v with one piece more before it
 --   visit cs p      == to visit the piece p with the cuts cs left
 --   walk d          == the walk of a difference
 --   walkRegion r    == the walk of a region, difference by difference
 --   walkInclusion   == the walk of "a in b": that of the untidied pieces of a less b
 --   Decision        == undecided, empty or a member; each with its count of pieces
 --   countOf d       == the count of pieces of a decision
+--   decided n s     == the decision on a walk of n pieces that came to s
 --   decide n f      == what the allowance n makes of a walk
 -- Assumes nothing: these are definitions.
 use Prim.Native.Nat.{ℕ, _+_}

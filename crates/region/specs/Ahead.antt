@@ -1,5 +1,6 @@
 -- Stepping from record to record by their lengths alone.
 --   nextRows s at    == where the record at an offset ends, or the end of s where the record goes beyond it
+--   aheadBy t s at   == at most t of the offsets of the next line
 --   ahead s at       == the offsets of the records from an offset on, as their lengths say
 --   regionAhead w s at == the region of the differences at these offsets
 -- Assumes nothing: these are definitions.

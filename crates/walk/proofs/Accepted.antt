@@ -18,15 +18,15 @@ use Rattle.format.specs.Records.{countAt, differenceAt}
 use Rattle.format.specs.Told.{deciding}
 use Rattle.format.proofs.Coding.{unused}
 use Rattle.format.proofs.Recording.{Record, each-cube, good-read}
-use Rattle.walk.specs.Cuts.{cubeOf, cutAt, cutsFrom}
-use Rattle.walk.specs.Settle.{view, kept, settle, decisionOf, decision}
+use Rattle.visits.specs.Cuts.{cubeOf, cutAt, cutsFrom}
+use Rattle.visits.specs.Settle.{view, kept, settle, decisionOf, decision}
 use Rattle.walk.specs.Tell.{toldOf}
-use Rattle.walk.specs.declared.allowance.Verdict.{Verdict}
-use Rattle.walk.specs.declared.allowance.Verdict.the-variants.{Covered, Survives, Undecided}
-use Rattle.walk.specs.declared.allowance.Outcome.{Outcome}
-use Rattle.walk.proofs.Cuts.{cut-padded, cuts-padded}
-use Rattle.walk.proofs.Places.{codes-take}
-use Rattle.walk.proofs.Settle.{decision-settle}
+use Rattle.visits.specs.declared.allowance.Verdict.{Verdict}
+use Rattle.visits.specs.declared.allowance.Verdict.the-variants.{Covered, Survives, Undecided}
+use Rattle.visits.specs.declared.allowance.Outcome.{Outcome}
+use Rattle.visits.proofs.Cuts.{cut-padded, cuts-padded}
+use Rattle.visits.proofs.Places.{codes-take}
+use Rattle.visits.proofs.Settle.{decision-settle}
 
 module _ {alone : Bool} {w n : ℕ} {s : List ℕ} {at : ℕ} (r : Record alone w n s at) where
   pub walk-padded : visit (cutsFrom (cubeLen w) s (at + 5 + cubeLen w) (countAt s at)) (cutAt (cubeLen w) s (at + 5)) ≡ padFound (unused w) (walk (differenceAt w s at))

@@ -29,13 +29,13 @@ use Rattle.format.proofs.Recording.{record-of, good-read}
 use Rattle.format.proofs.Filing.{File, file-of, file-good}
 use Rattle.region.specs.Ahead.{regionAhead}
 use Rattle.region.proofs.Onward.{Onward, file-region, region-end, region-next, onward-record}
-use Rattle.walk.specs.Cuts.{cutAt, cutsFrom}
-use Rattle.walk.specs.Settle.{Said, settle, view}
+use Rattle.visits.specs.Cuts.{cutAt, cutsFrom}
+use Rattle.visits.specs.Settle.{Said, settle, view}
 use Rattle.walk.specs.Tell.{toldOf}
-use Rattle.walk.specs.declared.allowance.Allowance.{Allowance}
-use Rattle.walk.specs.declared.allowance.Verdict.the-variants.{Covered}
-use Rattle.walk.specs.declared.allowance.Outcome.{Outcome}
-use Rattle.walk.proofs.Settle.{settle-zero, settle-covered, settle-stop}
+use Rattle.visits.specs.declared.allowance.Allowance.{Allowance}
+use Rattle.visits.specs.declared.allowance.Verdict.the-variants.{Covered}
+use Rattle.visits.specs.declared.allowance.Outcome.{Outcome}
+use Rattle.visits.proofs.Settle.{settle-zero, settle-covered, settle-stop}
 use Rattle.walk.proofs.Telling.{wide-zero, wide-above, wide-on, record-off, record-on, file-off, file-on, room-off, room-on}
 use Rattle.walk.proofs.Accepted.{walk-padded, next-padded, outcome-told}
 

@@ -27,7 +27,7 @@ use Rattle.model.proofs.Bools.{and-left, and-right}
 use Rattle.format.specs.Bytes.{codes}
 use Rattle.cube.specs.Count.{freeCount}
 use Rattle.cube.proofs.Codes.{codes-and}
-use Rattle.walk.specs.Cuts.{cubeOf, cutAt, cutsFrom}
+use Rattle.visits.specs.Cuts.{cubeOf, cutAt, cutsFrom}
 
 pub count-append : (a b : Cube) → freeCount (a ++ b) ≡ freeCount a + freeCount b
 count-append [] b = omega arith

@@ -21,9 +21,9 @@ use Rattle.format.specs.Calls.{diff-in}
 use Rattle.format.proofs.Coding.{unused}
 use Rattle.format.proofs.Recording.{Record, record-of, good-read}
 use Rattle.walk.specs.Lent.{Whole, lent}
-use Rattle.walk.specs.Settle.{settle, view}
+use Rattle.visits.specs.Settle.{settle, view}
 use Rattle.walk.specs.Tell.{toldOf}
-use Rattle.walk.specs.declared.allowance.Outcome.{Outcome}
+use Rattle.visits.specs.declared.allowance.Outcome.{Outcome}
 use Rattle.walk.proofs.Telling.{wide-zero, wide-above, wide-on, record-off, record-on, room-off, room-on}
 use Rattle.walk.proofs.Recorded.{record-room, record-base, record-cuts}
 use Rattle.walk.proofs.Accepted.{outcome-told}

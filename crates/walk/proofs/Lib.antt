@@ -1,26 +1,10 @@
 -- What the proofs of several functions use, and what is proved of the definitions alone.
-pub mod Settle
 pub mod Frees
-pub mod Openings
-pub mod Places
-pub mod Marks
-pub mod Cuts
-pub mod Turn
 pub mod Telling
 pub mod Recorded
-pub mod Step
 pub mod Shown
 pub mod Accepted
 pub mod Emptied
 pub mod Moved
 pub mod Restoring
 pub mod Included
-pub mod Digits
-pub mod Wide
-pub mod Meeting
-pub mod Slots
-pub mod Paying
-pub mod Narrowing
-pub mod Carrying
-pub mod Entering
-pub mod Whole

@@ -14,7 +14,7 @@ use Rattle.format.specs.Bytes.{codes}
 use Rattle.cube.specs.Pair.{andBytes, andInto}
 use Rattle.cube.proofs.Codes.{codes-and, length-and}
 use Rattle.cube.proofs.Pairs.{into-over}
-use Rattle.walk.specs.Cuts.{cubeOf, cutAt, cutsFrom}
+use Rattle.visits.specs.Cuts.{cubeOf, cutAt, cutsFrom}
 use Rattle.walk.specs.Lent.{Copied}
 use Rattle.walk.proofs.Recorded.{copied}
 

@@ -25,9 +25,9 @@ use Rattle.format.specs.Rows.{last}
 use Rattle.format.proofs.Reached.{reached}
 use Rattle.format.proofs.Coding.{unused}
 use Rattle.format.proofs.Recording.{Record, record-of, each-cube, good-read}
-use Rattle.walk.specs.Cuts.{cubeOf, cutAt, cutsFrom}
+use Rattle.visits.specs.Cuts.{cubeOf, cutAt, cutsFrom}
 use Rattle.walk.proofs.Telling.{wide-zero, wide-above, wide-on, record-off, record-on}
-use Rattle.walk.proofs.Cuts.{cut-padded, cuts-padded}
+use Rattle.visits.proofs.Cuts.{cut-padded, cuts-padded}
 
 module _ {alone : Bool} {w n : ℕ} {s : List ℕ} {at : ℕ} (r : Record alone w n s at) where
   pub record-room : at + 5 + cubeLen w + countAt s at * cubeLen w ≤ length s

@@ -16,12 +16,12 @@ use Rattle.model.specs.Algebra.{restored, subtraction}
 use Rattle.model.specs.Walk.{nothing, Found, next, visit, walk, walkRegion, walkInclusion}
 use Rattle.model.proofs.Padding.{pad, padFound, padDifference, sized-lengths, shares-pad, meet-pad, visit-pad}
 use Rattle.model.proofs.Setting.{good-subtraction}
-use Rattle.walk.specs.Cuts.{cutAt, cutsFrom}
+use Rattle.visits.specs.Cuts.{cutAt, cutsFrom}
 use Rattle.walk.specs.Lent.{walkBack}
-use Rattle.walk.specs.Settle.{Said, settle}
-use Rattle.walk.specs.declared.allowance.Allowance.{Allowance}
-use Rattle.walk.specs.declared.allowance.Verdict.the-variants.{Covered}
-use Rattle.walk.proofs.Settle.{settle-zero, settle-covered, settle-stop}
+use Rattle.visits.specs.Settle.{Said, settle}
+use Rattle.visits.specs.declared.allowance.Allowance.{Allowance}
+use Rattle.visits.specs.declared.allowance.Verdict.the-variants.{Covered}
+use Rattle.visits.proofs.Settle.{settle-zero, settle-covered, settle-stop}
 use Rattle.walk.proofs.Accepted.{next-padded}
 
 -- two walks on one allowance

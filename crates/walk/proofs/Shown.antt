@@ -20,7 +20,7 @@ use Rattle.format.specs.Told.{over}
 use Rattle.format.proofs.Coding.{length-codes}
 use Rattle.format.proofs.Heading.{header-length, header-bytes, bits-written}
 use Rattle.cube.proofs.Every.{below, below2}
-use Rattle.walk.proofs.Places.{codes-drop}
+use Rattle.visits.proofs.Places.{codes-drop}
 
 -- bytes
 -- the bits at the even places of m, together

@@ -14,7 +14,7 @@ use Rattle.model.specs.Difference.{Difference, less}
 use Rattle.model.specs.Walk.{nothing, Found, walk}
 use Rattle.format.specs.Limits.{mostCuts}
 use Rattle.format.specs.Records.{countAt}
-use Rattle.walk.specs.Cuts.{cutAt, cutsFrom}
+use Rattle.visits.specs.Cuts.{cutAt, cutsFrom}
 
 pub record Whole (q : ℕ) (s : List ℕ) : Type 0 where
   pub short : q ≤ 80

@@ -1,10 +1,2 @@
-pub mod Cuts
 pub mod Lent
-pub mod Opening
-pub mod Settle
 pub mod Tell
-pub mod Words
-pub mod Alive
-pub mod Memory
-pub mod Telling
-pub mod Loading

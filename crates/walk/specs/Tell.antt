@@ -8,8 +8,8 @@ use Rattle.model.specs.Cube.{shown}
 use Rattle.answer.specs.Answer.{counted, showing}
 use Rattle.format.specs.Bytes.{codes, headerLen, writeHeader}
 use Rattle.format.specs.Told.{Told, silent}
-use Rattle.walk.specs.declared.allowance.Verdict.{Verdict}
-use Rattle.walk.specs.declared.allowance.Verdict.the-variants.{Covered, Survives, Undecided}
+use Rattle.visits.specs.declared.allowance.Verdict.{Verdict}
+use Rattle.visits.specs.declared.allowance.Verdict.the-variants.{Covered, Survives, Undecided}
 
 abbrev pub toldOf : ℕ → Verdict → ℕ → List ℕ → Told
 toldOf w Covered n bs = silent (counted 1 n)

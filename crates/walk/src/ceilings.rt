@@ -9,7 +9,7 @@ ghost use Rattle.model.specs.Ceiling.{frees, ceilingFrom, capped};
 ghost use Rattle.format.specs.Bytes.{codes};
 ghost use Rattle.format.specs.Calls.{ceiling-of};
 ghost use Rattle.cube.specs.Count.{freeCount};
-ghost use Rattle.walk.specs.Cuts.{cutsFrom};
+ghost use Rattle.visits.specs.Cuts.{cutsFrom};
 use answer::Answer;
 use cube::WIDEST;
 use cube::cube_len;

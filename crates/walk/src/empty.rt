@@ -10,19 +10,20 @@ ghost use Rattle.format.specs.Files.{readFile, faultNumber, regionIn};
 ghost use Rattle.format.specs.Told.{over};
 ghost use Rattle.format.proofs.Coding.{unused};
 ghost use Rattle.format.specs.Calls.{diff-empty, region-empty};
-ghost use Rattle.walk.specs.Settle.{settle, view};
-use super::allowance::Allowance;
-use super::allowance::Outcome;
-use super::allowance::Verdict;
+ghost use Rattle.visits.specs.Settle.{settle, view};
 use super::record::walk_record;
 use super::told::tell;
 use answer::Answer;
 use cube::WIDEST;
 use cube::cube_len;
 use cube::header_len;
+use region::FIRST;
 use region::check_file;
 use region::difference_fault;
 use region::next_at;
+use visits::Allowance;
+use visits::Outcome;
+use visits::Verdict;
 
 // Whether no header is in the difference of a record: yes; no, and a header that is in is written over the front of out; or undecided within the
 // allowance.
@@ -56,7 +57,7 @@ fn walk_file(q: usize, s: &[u8], a: Allowance) -> Outcome
     ensures { λ r. ⌜ view q r ≡ settle a (padFound (unused (widthOf (now (s .entry)))) (walkRegion (regionIn (now (s .entry))))) ⌝ }
 {
     let mut have = a;
-    let mut at = 6;
+    let mut at = FIRST;
     while at < s.len() {
         let v = walk_record(q, s, at, have);
         let k = v.verdict;

@@ -9,13 +9,9 @@ ghost use Rattle.model.specs.Walk.{visit, walkRegion, walkInclusion};
 ghost use Rattle.format.specs.Records.{countAt};
 ghost use Rattle.format.specs.Told.{over};
 ghost use Rattle.format.specs.Calls.{diff-in};
-ghost use Rattle.walk.specs.Cuts.{cubeOf, cutAt, cutsFrom};
+ghost use Rattle.visits.specs.Cuts.{cubeOf, cutAt, cutsFrom};
 ghost use Rattle.walk.specs.Lent.{Whole, lent, walkBack, Copied};
-ghost use Rattle.walk.specs.Settle.{settle, view};
-use super::allowance::Allowance;
-use super::allowance::Outcome;
-use super::allowance::Verdict;
-use super::long::walk;
+ghost use Rattle.visits.specs.Settle.{settle, view};
 use super::record::load;
 use super::told::tell;
 use answer::Answer;
@@ -26,6 +22,10 @@ use cube::meet_into;
 use cube::meets;
 use region::count_at;
 use region::difference_fault;
+use visits::Allowance;
+use visits::Outcome;
+use visits::Verdict;
+use visits::walk;
 
 // Copies n bytes of s from an offset on over those of out from another on.
 fn copy(s: &[u8], at: usize, n: usize, out: &mut [u8], to: usize)

@@ -4,12 +4,12 @@ ghost use Prim.Native.Nat.{_+_, _*_, _^_, _≤_, _<_};
 ghost use lib.ListN.{length, take, drop};
 ghost use Rattle.model.specs.Walk.{visit};
 ghost use Rattle.format.specs.Records.{countAt};
-ghost use Rattle.walk.specs.Cuts.{cutAt, cutsFrom};
-ghost use Rattle.walk.specs.Settle.{settle, view};
-use super::allowance::Allowance;
-use super::allowance::Outcome;
-use super::long::walk;
+ghost use Rattle.visits.specs.Cuts.{cutAt, cutsFrom};
+ghost use Rattle.visits.specs.Settle.{settle, view};
 use region::count_at;
+use visits::Allowance;
+use visits::Outcome;
+use visits::walk;
 
 // The cube of q bytes that stands in s at an offset, as a piece.
 pub(crate) fn load(s: &[u8], at: usize, q: usize) -> [u8; 80]

@@ -5,11 +5,11 @@ ghost use lib.ListN.{length};
 ghost use Rattle.format.specs.Bytes.{headerLen};
 ghost use Rattle.format.specs.Told.{over};
 ghost use Rattle.walk.specs.Tell.{toldOf};
-use super::allowance::Outcome;
-use super::allowance::Verdict;
 use super::header::show;
 use answer::Answer;
 use cube::header_len;
+use visits::Outcome;
+use visits::Verdict;
 
 // The answer of a walk; where a piece survives, the header that it shows is written over the front of out, which has room for it.
 pub(crate) fn tell(v: Outcome, w: usize, out: &mut [u8]) -> Answer

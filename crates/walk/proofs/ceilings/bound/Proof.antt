@@ -6,7 +6,7 @@ use mathlib.Core.Path.{_≡_, refl}
 use lib.ListN.{length}
 use Rattle.model.specs.Ceiling.{ceilingFrom, capped}
 use Rattle.format.specs.Bytes.{codes}
-use Rattle.walk.specs.Cuts.{cutsFrom}
+use Rattle.visits.specs.Cuts.{cutsFrom}
 use Rattle.walk.proofs.Frees.{bound-begun, bound-ended, back, back-turn, part-back-length, part-back, under}
 use borrow.Author.Needs.{needs}
 use Rattle.walk.proofs.ceilings.bound.Statement.{statement}

@@ -7,7 +7,7 @@ use lib.ListN.{length}
 use Rattle.answer.specs.Answer.{fault}
 use Rattle.format.specs.Told.{Told}
 use Rattle.format.proofs.Recording.{Record, record-of}
-use Rattle.walk.proofs.Cuts.{part-cut, part-length}
+use Rattle.visits.proofs.Cuts.{part-cut, part-length}
 use Rattle.walk.proofs.Recorded.{record-room, ceiling-zero, ceiling-above, ceiling-refused, ceiling-told}
 use borrow.Author.Needs.{needs}
 use Rattle.walk.proofs.ceilings.ceiling.Statement.{statement}

@@ -10,9 +10,9 @@ use Rattle.format.specs.Files.{regionIn}
 use Rattle.format.proofs.Filing.{file-of}
 use Rattle.region.specs.Ahead.{regionAhead}
 use Rattle.region.proofs.Onward.{Onward, onward-file, onward-record, onward-next, onward-step}
-use Rattle.walk.specs.Settle.{settle, view}
-use Rattle.walk.proofs.Turn.{is-covered, not-covered}
-use Rattle.walk.proofs.Settle.{settle-keeps}
+use Rattle.visits.specs.Settle.{settle, view}
+use Rattle.visits.proofs.Turn.{is-covered, not-covered}
+use Rattle.visits.proofs.Settle.{settle-keeps}
 use Rattle.walk.proofs.Recorded.{record-room}
 use Rattle.walk.proofs.Emptied.{walked, by-width, file-begun, file-turn, file-stop, file-ended}
 use borrow.Author.Needs.{needs}

@@ -4,8 +4,8 @@ use native.Mathlib.Omega.{arith}
 use mathlib.Core.Path.{sym, ap, ap₂, _∙_}
 use lib.ListN.{take, drop, replicate}
 use Rattle.model.specs.Cube.{meet}
-use Rattle.walk.specs.Cuts.{cubeOf}
-use Rattle.walk.proofs.Cuts.{part-cut, part-length}
+use Rattle.visits.specs.Cuts.{cubeOf}
+use Rattle.visits.proofs.Cuts.{part-cut, part-length}
 use Rattle.walk.proofs.Moved.{met-piece}
 use borrow.Author.Needs.{needs}
 use Rattle.walk.proofs.inclusion.meet_at.Statement.{statement}

@@ -2,10 +2,11 @@
 use mathlib.Core.Path.{_≡_, sym, ap, _∙_}
 use borrow.Author.Tests.{not-true, not-false}
 use Rattle.model.specs.Cube.{shares}
-use Rattle.walk.specs.Cuts.{cutAt}
+use Rattle.visits.specs.Cuts.{cutAt}
 use Rattle.walk.specs.Lent.{lent}
-use Rattle.walk.specs.Settle.{settle}
-use Rattle.walk.proofs.Cuts.{part-cut}
+use Rattle.visits.specs.Settle.{settle}
+use Rattle.visits.proofs.Cuts.{part-cut}
+use Rattle.visits.proofs.Walked.{walked-settles}
 use Rattle.walk.proofs.Restoring.{back-apart, back-met}
 use borrow.Author.Needs.{needs}
 use Rattle.walk.proofs.inclusion.walk_back.Statement.{statement}
@@ -57,13 +58,17 @@ count-at-requires : tie.Need-count-at-requires
 count-at-requires c κs = search needs
 
 walk-requires : tie.Need-walk-requires
-walk-requires c κs = (search needs, rw (c .count-at .ensures .0) (search needs), rw (c .count-at .ensures .0) (search needs), search needs)
+walk-requires c κs = search needs
 
 returns-2 : tie.Need-returns-2
 returns-2 c =
     let m = c .before .before .before in
     let x = m .before .before .before .before .before .before .args in
-    rw (c .before .count-at .ensures .0, m .before .before .before .meet-at .ensures) at (c .walk .ensures)
+    let n = c .before .count-at .ensures .0 in
+    let met = m .before .before .before .meet-at in
+    let said = c .walk .ensures
+    ∙ walked-settles (x .q) (met .result) (x .s .now) _ _ (x .a) (search needs, rw n (search needs), rw n (search needs), search needs) in
+    rw (n, met .ensures) at said
     ∙ ap (settle (x .a)) (sym (back-met (lent (x .q) (x .s .now)) (cutAt (x .q) (x .t .now) (x .at)) (sym (shared m) ∙ not-false _ (c .before .before .if1 .left))))
 
 pub walk-back-spec : {M : Type 1} → statement M

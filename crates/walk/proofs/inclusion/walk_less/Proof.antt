@@ -1,9 +1,9 @@
 -- `walk::inclusion::walk_less` meets its contract. Assumes nothing.
 use native.Mathlib.Omega.{arith}
 use mathlib.Core.Path.{sym, _∙_}
-use Rattle.walk.specs.Settle.{view}
-use Rattle.walk.proofs.Turn.{is-covered, not-covered}
-use Rattle.walk.proofs.Settle.{settle-keeps}
+use Rattle.visits.specs.Settle.{view}
+use Rattle.visits.proofs.Turn.{is-covered, not-covered}
+use Rattle.visits.proofs.Settle.{settle-keeps}
 use Rattle.walk.proofs.Restoring.{said-on, said-stop}
 use borrow.Author.Needs.{needs}
 use Rattle.walk.proofs.inclusion.walk_less.Statement.{statement}

@@ -6,12 +6,12 @@ use mathlib.Core.Path.{_≡_, refl, sym, ap, _∙_}
 use lib.ListN.{length}
 use Rattle.model.specs.Algebra.{restored}
 use Rattle.model.specs.Walk.{next, walkRegion}
-use Rattle.walk.specs.Cuts.{cutAt, cutsFrom}
+use Rattle.visits.specs.Cuts.{cutAt, cutsFrom}
 use Rattle.walk.specs.Lent.{Whole, lent, walkBack}
-use Rattle.walk.specs.Settle.{settle, view}
-use Rattle.walk.proofs.Cuts.{room}
-use Rattle.walk.proofs.Turn.{is-covered, not-covered}
-use Rattle.walk.proofs.Settle.{settle-keeps}
+use Rattle.visits.specs.Settle.{settle, view}
+use Rattle.visits.proofs.Cuts.{room}
+use Rattle.visits.proofs.Turn.{is-covered, not-covered}
+use Rattle.visits.proofs.Settle.{settle-keeps}
 use Rattle.walk.proofs.Restoring.{said-on, said-stop, restored-cut, restored-none}
 use borrow.Author.Needs.{needs}
 use Rattle.walk.proofs.inclusion.walk_restored.Statement.{statement}

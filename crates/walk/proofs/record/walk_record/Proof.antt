@@ -1,6 +1,8 @@
 -- `walk::record::walk_record` meets its contract. Assumes nothing.
 use Prim.Native.Nat.{_+_}
 use native.Mathlib.Omega.{arith}
+use mathlib.Core.Path.{_∙_}
+use Rattle.visits.proofs.Walked.{walked-settles}
 use Rattle.walk.proofs.Recorded.{loaded}
 use borrow.Author.Needs.{needs}
 use Rattle.walk.proofs.record.walk_record.Statement.{statement}
@@ -24,14 +26,16 @@ count-at-requires c κs = search needs
 
 -- src/record.rt:35:5
 walk-requires : tie.Need-walk-requires
-walk-requires c κs = (search needs, rw (c .count-at .ensures .0) (search needs), omega (arith, c .count-at .ensures .0), search needs)
+walk-requires c κs = search needs
 
 -- src/record.rt:29:1
 returns : tie.Need-returns
 returns c =
     let x = c .before .before .before .before .args in
     let l = c .before .before .load in
-    rw (c .before .count-at .ensures .0, loaded (x .q) (x .s .now) (x .at + 5) (l .result) (l .ensures)) at (c .walk .ensures)
+    let n = c .before .count-at .ensures .0 in
+    let said = c .walk .ensures ∙ walked-settles (x .q) (l .result) (x .s .now) _ _ (x .a) (search needs, rw n (search needs), omega (arith, n), search needs) in
+    rw (n, loaded (x .q) (x .s .now) (x .at + 5) (l .result) (l .ensures)) at said
 
 pub walk-record-spec : {M : Type 1} → statement M
 walk-record-spec =

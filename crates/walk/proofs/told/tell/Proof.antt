@@ -4,7 +4,7 @@ use mathlib.Core.Path.{sym, ap, _∙_}
 use Rattle.answer.specs.Answer.{showing}
 use Rattle.format.specs.Told.{over}
 use Rattle.walk.specs.Tell.{toldOf}
-use Rattle.walk.specs.declared.allowance.Verdict.{Verdict}
+use Rattle.visits.specs.declared.allowance.Verdict.{Verdict}
 use borrow.Author.Needs.{needs}
 use Rattle.walk.proofs.told.tell.Statement.{statement}
 use Rattle.walk.proofs.told.tell.Tie as tie

@@ -1,0 +1,123 @@
+-- Paying the pieces of walks out of an allowance. Assumes nothing.
+--   settle-le, settle-lt    the allowance pays every piece, or it does not
+--   settle-on               n pieces are paid for and nothing survived: the rest goes on with what is left
+--   settle-zero, settle-none   nothing is left to visit; no piece can be paid for
+--   settle-covered, settle-stop   of two walks: the first is covered, and the second goes on; or the first is the answer
+--   settle-keeps            what is left and what is spent make the same sum
+--   decision-settle         on a fresh allowance it is the model's decision
+use Prim.Native.Nat.{ℕ, _+_, _-_, _≤_, _<_, zero-le}
+use native.Mathlib.Nat.{zero-add}
+use native.Mathlib.Omega.{arith}
+use mathlib.Core.Path.{_≡_, refl, sym, ap, _∙_}
+use mathlib.Core.Bool.{Bool, true, false, cond}
+use mathlib.Core.Logic.{_⊎_, inl, inr, ⊎-elim}
+use mathlib.Core.List.{[]}
+use lib.Dec.{leb}
+use borrow.Author.Tests.{le-leb, lt-leb, leb-true, leb-false}
+use Rattle.model.specs.Walk.{Survivor, nothing, piece, Found, joined, next, decide, decided, undecided}
+use Rattle.visits.specs.Settle.{Said, after, saidOf, unpaid, settle, decision}
+use Rattle.visits.specs.declared.allowance.Allowance.{Allowance}
+use Rattle.visits.specs.declared.allowance.Verdict.the-variants.{Covered, Undecided}
+
+le-or-lt : (m n : ℕ) → (m ≤ n) ⊎ (n < m)
+le-or-lt m n = go (leb m n) refl
+  where
+    go : (b : Bool) → leb m n ≡ b → (m ≤ n) ⊎ (n < m)
+    go true e = inl (leb-true m n e)
+    go false e = inr (leb-false m n e)
+
+pub settle-le : (a : Allowance) (v : Found) → v .pieces ≤ a .left → settle a v ≡ saidOf (after a (v .pieces)) (v .survivor)
+unfolding settle
+settle-le a v h = rw (le-leb _ _ h)
+
+pub settle-lt : (a : Allowance) (v : Found) → a .left < v .pieces → settle a v ≡ unpaid a
+unfolding settle
+settle-lt a v h = rw (lt-leb _ _ h)
+
+allowance-path : (a b : Allowance) → a .left ≡ b .left → a .spent ≡ b .spent → a ≡ b
+allowance-path a b p q = λ i. record { left = p i; spent = q i }
+
+pub settle-on : (a : Allowance) (n : ℕ) (v : Found) → n ≤ a .left → settle a (joined n nothing v) ≡ settle (after a n) v
+settle-on a n v h = ⊎-elim enough short (le-or-lt (v .pieces) (a .left - n))
+  where
+    enough : v .pieces ≤ a .left - n → settle a (joined n nothing v) ≡ settle (after a n) v
+    enough k =
+        let p : n + v .pieces ≤ a .left = omega arith in
+        let e : after a (n + v .pieces) ≡ after (after a n) (v .pieces) = allowance-path _ _ (omega arith) (omega arith) in
+        rw (settle-le a (joined n nothing v) p, settle-le (after a n) v k, e)
+
+    short : a .left - n < v .pieces → settle a (joined n nothing v) ≡ settle (after a n) v
+    short k =
+        let p : a .left < n + v .pieces = omega arith in
+        let e : after a (a .left) ≡ after (after a n) (a .left - n) = allowance-path _ _ (omega arith) (omega arith) in
+        rw (settle-lt a (joined n nothing v) p, settle-lt (after a n) v k, e)
+
+pub settle-zero : (a : Allowance) → settle a (record { pieces = 0; survivor = nothing }) ≡ record { allowance = a; verdict = Covered; piece = [] }
+settle-zero a =
+    let e : after a 0 ≡ a = allowance-path _ _ (omega arith) (omega arith) in
+    rw (settle-le a (record { pieces = 0; survivor = nothing }) zero-le, e)
+
+pub settle-none : (a : Allowance) (v : Found) → a .left ≡ 0 → 0 < v .pieces → settle a v ≡ record { allowance = a; verdict = Undecided; piece = [] }
+settle-none a v z h =
+    let p : a .left < v .pieces = omega arith in
+    let e : after a (a .left) ≡ a = allowance-path _ _ (omega arith) (omega arith) in
+    rw (settle-lt a v p, e)
+
+covered-nothing : (a : Allowance) (s : Survivor) → saidOf a s .verdict ≡ Covered → s ≡ nothing
+covered-nothing a nothing e = refl
+covered-nothing a (piece p) e = let z : _≡_ {A = ℕ} 0 1 = cc in absurd (omega arith)
+
+pub settle-covered : (a : Allowance) (v u : Found) → settle a v .verdict ≡ Covered → settle a (next v u) ≡ settle (settle a v .allowance) u
+settle-covered a v u e = ⊎-elim enough short (le-or-lt (v .pieces) (a .left))
+  where
+    enough : v .pieces ≤ a .left → settle a (next v u) ≡ settle (settle a v .allowance) u
+    enough k =
+        let d = settle-le a v k in
+        let q = covered-nothing (after a (v .pieces)) (v .survivor) (rw d at e) in
+        rw (d, q) (settle-on a (v .pieces) u k)
+
+    short : a .left < v .pieces → settle a (next v u) ≡ settle (settle a v .allowance) u
+    short k =
+        let q : Undecided ≡ Covered = rw (settle-lt a v k) at e in
+        let z : _≡_ {A = ℕ} 0 1 = cc in absurd (omega arith)
+
+pub settle-stop : (a : Allowance) (v u : Found) → (settle a v .verdict ≡ Covered → ⊥) → settle a (next v u) ≡ settle a v
+settle-stop a v u e = go (v .survivor) refl
+  where
+    go : (s : Survivor) → v .survivor ≡ s → settle a (joined (v .pieces) s u) ≡ settle a v
+    go nothing q = ⊎-elim enough short (le-or-lt (v .pieces) (a .left))
+      where
+        enough : v .pieces ≤ a .left → settle a (joined (v .pieces) nothing u) ≡ settle a v
+        enough k = absurd (e (rw (settle-le a v k, q)))
+
+        short : a .left < v .pieces → settle a (joined (v .pieces) nothing u) ≡ settle a v
+        short k =
+            let p : a .left < v .pieces + u .pieces = omega arith in
+            rw (settle-lt a (joined (v .pieces) nothing u) p, settle-lt a v k)
+    go (piece p) q = ap (settle a) (λ i. record { pieces = v .pieces; survivor = sym q i })
+
+said-sum : (a : Allowance) (s : Survivor) → saidOf a s .allowance ≡ a
+said-sum a nothing = refl
+said-sum a (piece p) = refl
+
+settle-sum : (a : Allowance) (v : Found) → settle a v .allowance .left + settle a v .allowance .spent ≡ a .left + a .spent
+settle-sum a v =
+    ⊎-elim (λ k. rw (settle-le a v k, said-sum (after a (v .pieces)) (v .survivor)) (omega arith)) (λ k. rw (settle-lt a v k) (omega arith)) (le-or-lt (v .pieces) (a .left))
+
+pub settle-keeps : (a : Allowance) (v : Found) (d : Said) → d ≡ settle a v → d .allowance .left + d .allowance .spent ≡ a .left + a .spent
+settle-keeps a v d e = rw e (settle-sum a v)
+
+said-decided : (a : Allowance) (s : Survivor) → decision (saidOf a s) ≡ decided (a .spent) s
+said-decided a nothing = refl
+said-decided a (piece p) = refl
+
+pub decision-settle : (n : ℕ) (v : Found) → decision (settle (record { left = n; spent = 0 }) v) ≡ decide n v
+unfolding settle decide
+decision-settle n v = go (leb (v .pieces) n)
+  where
+    fresh : Allowance
+    fresh = record { left = n; spent = 0 }
+
+    go : (g : Bool) → decision (cond g (saidOf (after fresh (v .pieces)) (v .survivor)) (unpaid fresh)) ≡ cond g (decided (v .pieces) (v .survivor)) (undecided n)
+    go true = said-decided (after fresh (v .pieces)) (v .survivor) ∙ rw zero-add
+    go false = rw zero-add

@@ -1,0 +1,9 @@
+pub mod Cuts
+pub mod Opening
+pub mod Settle
+pub mod Words
+pub mod Alive
+pub mod Memory
+pub mod Telling
+pub mod Loading
+pub mod Walked
