@@ -1,16 +1,15 @@
 -- Codes written into bytes. Assumes nothing.
 --   codes-set       a code placed in a byte is that code at the position, and the others are kept
---   codes-filled    bytes 255 hold free positions alone
 --   bytes-are       bytes that hold a cube with the unused places behind it are the bytes written of it
 use Prim.Native.Nat.{ℕ, zero, suc, _-_, _*_, _/_, _%_, _<_}
 use native.Mathlib.Omega.{arith}
-use mathlib.Core.Path.{_≡_, refl, sym, ap, _∙_}
+use mathlib.Core.Path.{_≡_, sym, ap, _∙_}
 use mathlib.Core.List.{List, [], _∷_}
-use lib.ListN.{length, getD, set, replicate}
-use Rattle.model.specs.Cube.{Cube, free}
-use Rattle.model.proofs.Padding.{pad}
-use Rattle.format.specs.Bytes.{Bytes, cubeLen, codeOf, codes, cubeBytes, writeCube}
-use Rattle.format.proofs.Coding.{unused, write-padded, write-bytes, codes-tell}
+use lib.ListN.{length, getD, set}
+use Rattle.model.specs.Cube.{Cube}
+use Rattle.model.specs.Padding.{pad}
+use Rattle.format.specs.Bytes.{Bytes, cubeLen, codeOf, codes, cubeBytes, writeCube, unused}
+use Rattle.format.proofs.Coding.{write-padded, write-bytes, codes-tell, four-codes}
 use Rattle.algebra.specs.Code.{placed}
 
 place0 : (b v : ℕ) → v < 4 → (placed b 0 v / 64 % 4 ≡ v) × (placed b 0 v / 16 % 4 ≡ b / 16 % 4) × (placed b 0 v / 4 % 4 ≡ b / 4 % 4) × (placed b 0 v % 4 ≡ b % 4)
@@ -26,10 +25,6 @@ place3 : (b v : ℕ) → v < 4 → (placed b 3 v / 64 % 4 ≡ b / 64 % 4) × (pl
 place3 b v h = (omega arith, omega arith, omega arith, omega arith)
 
 -- one byte's four codes, and the rest
-four-codes : {a b c d a′ b′ c′ d′ : ℕ} (r : Cube) → (a ≡ a′) × (b ≡ b′) × (c ≡ c′) × (d ≡ d′)
-    → _≡_ {A = Cube} (codeOf a ∷ codeOf b ∷ codeOf c ∷ codeOf d ∷ r) (codeOf a′ ∷ codeOf b′ ∷ codeOf c′ ∷ codeOf d′ ∷ r)
-four-codes r h = λ i. codeOf (h .0 i) ∷ codeOf (h .1 i) ∷ codeOf (h .2 i) ∷ codeOf (h .3 i) ∷ r
-
 pub codes-set : (bs : List ℕ) (p v : ℕ) → p < 4 * length bs → v < 4 → codes (set bs (p / 4) (placed (getD bs (p / 4) 0) (p % 4) v)) ≡ set (codes bs) p (codeOf v)
 codes-set [] p v h k = absurd (omega arith)
 codes-set (b ∷ bs) zero v h k = four-codes (codes bs) (place0 b v k)
@@ -40,12 +35,6 @@ codes-set (b ∷ bs) (suc (suc (suc (suc p)))) v h k =
     let q : suc (suc (suc (suc p))) / 4 ≡ suc (p / 4) = omega arith in
     let r : suc (suc (suc (suc p))) % 4 ≡ p % 4 = omega arith in
     rw (q, r) (ap (λ (l : Cube). codeOf (b / 64 % 4) ∷ codeOf (b / 16 % 4) ∷ codeOf (b / 4 % 4) ∷ codeOf (b % 4) ∷ l) (codes-set bs p v (omega arith) k))
-
-pub codes-filled : (n : ℕ) → codes (replicate n 255) ≡ replicate (4 * n) free
-codes-filled zero = refl
-codes-filled (suc n) =
-    let e : 4 * suc n ≡ suc (suc (suc (suc (4 * n)))) = omega arith in
-    rw e (ap (λ (c : Cube). free ∷ free ∷ free ∷ free ∷ c) (codes-filled n))
 
 pub bytes-are : (w : ℕ) (b : List ℕ) (c : Cube) → Bytes b → length c ≡ w → codes b ≡ pad (unused w) c → b ≡ writeCube c
 bytes-are w b c h l e =

@@ -20,13 +20,13 @@ use lib.Seq.{take-suc, set-at, set-append-left, length-take-le}
 use Rattle.model.specs.Cube.{Header, Code, v0, v1, free, Cube}
 use Rattle.model.specs.Fields.{bitCode, prefixCube, apart, unequal, equalFields}
 use Rattle.model.proofs.Field.{prefix-length, equal-count}
-use Rattle.model.proofs.Padding.{pad}
-use Rattle.format.specs.Bytes.{Bytes, cubeLen, bitOf, codeOf, codes, writeCube}
+use Rattle.model.specs.Padding.{pad}
+use Rattle.format.specs.Bytes.{Bytes, cubeLen, bitOf, codeOf, codes, writeCube, unused}
 use Rattle.format.specs.Records.{cubesBytes, differenceBytes}
-use Rattle.format.proofs.Coding.{unused, write-length}
+use Rattle.format.proofs.Coding.{write-length, codes-free}
 use Rattle.algebra.specs.Lay.{frontBytes}
 use Rattle.algebra.specs.Code.{pairs, equalBytes}
-use Rattle.algebra.proofs.Coded.{codes-filled, bytes-are}
+use Rattle.algebra.proofs.Coded.{bytes-are}
 
 frees : (n m k : ℕ) → n + m ≡ k → replicate n free ++ replicate m free ≡ replicate k free
 frees n m k e = replicate-append-replicate n m free ∙ ap (λ (i : ℕ). replicate i free) e
@@ -86,7 +86,7 @@ bytes-full zero = tt
 bytes-full (suc n) = (omega arith, bytes-full n)
 
 pub free-bytes : (w : ℕ) → replicate (cubeLen w) 255 ≡ writeCube (replicate w free)
-free-bytes w = bytes-are w (replicate (cubeLen w) 255) (replicate w free) (bytes-full (cubeLen w)) (length-replicate w free) (codes-filled (cubeLen w) ∙ wide-free w)
+free-bytes w = bytes-are w (replicate (cubeLen w) 255) (replicate w free) (bytes-full (cubeLen w)) (length-replicate w free) (codes-free (cubeLen w) ∙ wide-free w)
 
 -- the cuts of an equality
 abbrev pair : ℕ → ℕ → ℕ → List Cube

@@ -5,7 +5,7 @@
 use Prim.Native.Nat.{ℕ, zero, suc, _+_, _-_, _*_, _≤_, _<_}
 use native.Mathlib.Omega.{arith}
 use mathlib.Core.Path.{_≡_, refl, sym, ap, _∙_}
-use mathlib.Core.List.{List, [], _∷_, _++_, map, append-nil, append-assoc}
+use mathlib.Core.List.{List, [], _∷_, _++_, map, append-nil}
 use mathlib.Core.Bool.{Bool, true, false, cond}
 use lib.Dec.{eqb, leb}
 use borrow.Author.Tests.{ne-eqb}
@@ -14,6 +14,7 @@ use Rattle.model.specs.Cube.{Cube, meet, shares}
 use Rattle.model.specs.Difference.{Difference, less, Region}
 use Rattle.model.specs.Tidy.{tidyFrom, tidy, each, tidyRegion}
 use Rattle.model.specs.Algebra.{intersection, intersections, restored, subtraction, subtractions}
+use Rattle.model.proofs.Tidying.{each-append}
 use Rattle.format.specs.Records.{countAt, nextAt}
 use Rattle.region.specs.Ahead.{aheadBy, ahead}
 use Rattle.algebra.specs.Whole.{wholeAt, wholesAt, wholeDifference}
@@ -22,10 +23,6 @@ use Rattle.algebra.specs.Totals.{stepsBy, stops, gather, made, total}
 use Rattle.algebra.specs.declared.stop.Stop.{Stop}
 use Rattle.algebra.specs.declared.stop.Operation.the-variants.{Tidy, Intersect, Less}
 use Rattle.algebra.proofs.Running.{steps-end, steps-turn, stop-on}
-
-each-append : (f : Difference → Region) (r s : Region) → each f (r ++ s) ≡ each f r ++ each f s
-each-append f [] s = refl
-each-append f (d ∷ r) s = rw (each-append f r s) (sym (append-assoc (f d) (each f r) (each f s)))
 
 -- what is made and tidied for one after another is tidied as a whole
 gather-each : (f : ℕ → Region) (g : Difference → Region) (d : ℕ → Difference) → ((x : ℕ) → f x ≡ tidyRegion (g (d x))) → (xs : List ℕ)

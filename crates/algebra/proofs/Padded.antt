@@ -15,11 +15,12 @@ use Rattle.model.specs.Difference.{Difference, less, Region}
 use Rattle.model.specs.Sized.{All, Sized, Good}
 use Rattle.model.specs.Tidy.{tidy, each, tidyRegion}
 use Rattle.model.specs.Algebra.{intersection, intersections, restored, subtraction, subtractions}
-use Rattle.model.proofs.Padding.{pad, sized-lengths, padDifference, tidy-pad, meet-pad, shares-pad}
-use Rattle.format.specs.Bytes.{cubeLen, codes, cubeFault, cubeBytes, writeCube}
+use Rattle.model.specs.Padding.{pad, padDifference}
+use Rattle.model.proofs.Padding.{sized-lengths, tidy-pad, meet-pad, shares-pad}
+use Rattle.format.specs.Bytes.{cubeLen, codes, cubeFault, cubeBytes, writeCube, unused}
 use Rattle.format.specs.Records.{countAt, cubeAt, cubesAt, differenceAt, cubesBytes, differenceBytes, differencesBytes}
 use Rattle.format.specs.Told.{anyLong}
-use Rattle.format.proofs.Coding.{unused, read-padded, write-padded, write-bytes, codes-tell}
+use Rattle.format.proofs.Coding.{read-padded, write-padded, write-bytes, codes-tell}
 use Rattle.format.proofs.Recording.{Record, each-cube}
 use Rattle.algebra.specs.Whole.{wholeAt, wholesAt, wholeDifference}
 

@@ -15,15 +15,14 @@ use Rattle.model.specs.Difference.{Region}
 use Rattle.model.specs.Sized.{All, Good}
 use Rattle.model.specs.Tidy.{tidyRegion}
 use Rattle.model.specs.Algebra.{intersections, subtractions}
-use Rattle.model.proofs.Padding.{padDifference}
+use Rattle.model.specs.Padding.{padDifference}
 use Rattle.model.proofs.Tidying.{tidyRegion-keeps}
 use Rattle.model.proofs.Setting.{good-intersections, good-subtractions}
 use Rattle.format.specs.Limits.{widest}
-use Rattle.format.specs.Bytes.{cubeLen}
+use Rattle.format.specs.Bytes.{cubeLen, unused}
 use Rattle.format.specs.Records.{countAt, nextAt, widthOf, differenceAt, fileBytes}
 use Rattle.format.specs.Files.{regionOf, regionIn}
 use Rattle.format.specs.Told.{writingRegion}
-use Rattle.format.proofs.Coding.{unused}
 use Rattle.format.proofs.Recording.{Record, good-read}
 use Rattle.format.proofs.Filing.{Listed, ended, listed, File, file-good}
 use Rattle.region.specs.Ahead.{ahead}

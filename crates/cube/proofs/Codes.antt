@@ -29,7 +29,7 @@ free-append [] b = refl
 free-append (x ∷ a) b = ap (λ (t : Bool). isFree x && t) (free-append a b) ∙ sym (and-assoc (isFree x) (allFree a) (allFree b))
 
 -- a number below 4 is one of four
-below4 : (P : ℕ → Type 0) → P 0 → P 1 → P 2 → P 3 → (n : ℕ) → n < 4 → P n
+pub below4 : (P : ℕ → Type 0) → P 0 → P 1 → P 2 → P 3 → (n : ℕ) → n < 4 → P n
 below4 P p0 p1 p2 p3 zero h = p0
 below4 P p0 p1 p2 p3 (suc zero) h = p1
 below4 P p0 p1 p2 p3 (suc (suc zero)) h = p2

@@ -9,10 +9,11 @@ use lib.ListN.{length, take, drop, replicate, length-append, length-drop, length
 use lib.Seq.{length-take-le, take-append-le, take-take, take-add}
 use Rattle.model.specs.Cube.{Header, v0, Cube, holds, within}
 use Rattle.model.specs.Fields.{bitCode}
-use Rattle.model.proofs.Padding.{pad, holds-pad}
+use Rattle.model.specs.Padding.{pad}
+use Rattle.model.proofs.Padding.{holds-pad}
 use Rattle.format.specs.Limits.{widest}
-use Rattle.format.specs.Bytes.{headerLen, cubeLen, bits, readHeader, codeOf, codes, readCube, cubeFault}
-use Rattle.format.proofs.Coding.{length-codes, unused, read-length, read-padded}
+use Rattle.format.specs.Bytes.{headerLen, cubeLen, bits, readHeader, codeOf, codes, readCube, cubeFault, unused}
+use Rattle.format.proofs.Coding.{length-codes, read-length, read-padded}
 use Rattle.format.proofs.Heading.{length-bits}
 use Rattle.cube.specs.Pair.{liesIn}
 use Rattle.cube.specs.Header.{spelledCube}

@@ -9,10 +9,12 @@ use native.Mathlib.Omega.{arith}
 use lib.Bits.{and-le-l}
 use lib.ListN.{length, getD}
 use Rattle.model.specs.Cube.{meet, shares, within}
-use Rattle.model.proofs.Padding.{pad, meet-pad, length-meet, shares-pad, within-pad}
-use Rattle.format.specs.Bytes.{Bytes, cubeLen, codes, readCube, cubeBytes, writeCube, cubeFault, lentRows, lentFault}
+use Rattle.model.specs.Padding.{pad}
+use Rattle.model.proofs.Padding.{meet-pad, shares-pad, within-pad}
+use Rattle.model.proofs.Cubes.{length-meet}
+use Rattle.format.specs.Bytes.{Bytes, cubeLen, codes, readCube, cubeBytes, writeCube, cubeFault, lentRows, lentFault, unused}
 use Rattle.format.proofs.Reached.{clean}
-use Rattle.format.proofs.Coding.{unused, read-length, read-padded, write-padded, write-bytes, codes-tell}
+use Rattle.format.proofs.Coding.{read-length, read-padded, write-padded, write-bytes, codes-tell}
 use Rattle.cube.specs.Pair.{liesIn, andBytes}
 use Rattle.cube.proofs.Codes.{codes-and}
 use Rattle.cube.proofs.Pairs.{lies-within}

@@ -1,28 +1,27 @@
 -- What a call that walks tells: yes, no with a header, or that the allowance is too small. Assumes nothing.
 --   Looks w In v             == the walk v, of headers of w positions, looks for the headers that In holds of
---   Shown w In x             == the bytes written are a header of w positions that In holds of
 --   count-told               the count told is the decision's
 --   Asks w n In v Ok x       == a call with the allowance n, which accepts its operands and room exactly where Ok holds, tells x of such a walk
 --   asks-yes, asks-yes-when  it says yes exactly when no header is in and the allowance pays for the walk
 --   asks-no                  where it says no, it shows a header that is in
 --   asks-undecided, asks-undecided-when    it is undecided exactly when the walk has more pieces than the allowance, which is then the count
 --   asks-count               its count is that of the walk's decision
-use Prim.Native.Nat.{ℕ, suc, _≤_, _<_}
+use Prim.Native.Nat.{ℕ, _≤_, _<_}
 use native.Mathlib.Omega.{arith}
 use mathlib.Core.Path.{_≡_, refl, sym, ap, _∙_}
-use mathlib.Core.List.{[], _∷_}
 use mathlib.Core.Bool.{Bool, true, false, cond, true≢false}
 use lib.Dec.{leb}
-use lib.ListN.{length, drop}
+use lib.ListN.{length}
 use borrow.Author.Tests.{leb-true, leb-false}
 use Rattle.model.specs.Cube.{Header, Cube, holds, shown}
 use Rattle.model.specs.Sized.{Sized}
 use Rattle.model.specs.Walk.{Survivor, nothing, piece, Found, Decision, undecided, empty, member, countOf, decided, decide}
-use Rattle.model.proofs.Cubes.{in-shown}
+use Rattle.model.proofs.Cubes.{in-shown, length-shown}
 use Rattle.model.proofs.Allowed.{undecided-when}
 use Rattle.answer.specs.Answer.{counted, showing}
-use Rattle.format.specs.Bytes.{headerLen, bits, readHeader, writeHeader, anyBit}
+use Rattle.format.specs.Bytes.{headerLen, readHeader, writeHeader}
 use Rattle.format.specs.Told.{Told, silent, deciding}
+use Rattle.format.specs.Meaning.{Shown}
 use Rattle.format.proofs.Heading.{read-written, header-accepted}
 
 -- a walk
@@ -32,17 +31,6 @@ pub record Looks (w : ℕ) (In : Header → Bool) (v : Found) : Type 0 where
   pub some : (q : Cube) → v .survivor ≡ piece q → (h : Header) → holds q h ≡ true → In h ≡ true
 
 -- the header shown
-pub record Shown (w : ℕ) (In : Header → Bool) (x : Told) : Type 0 where
-  pub long : length (x .bytes) ≡ headerLen w
-  pub told : x .answer .written ≡ headerLen w
-  pub clear : anyBit (drop w (bits (x .bytes))) ≡ false
-  pub wide : length (readHeader w (x .bytes)) ≡ w
-  pub inside : In (readHeader w (x .bytes)) ≡ true
-
-length-shown : (c : Cube) → length (shown c) ≡ length c
-length-shown [] = refl
-length-shown (x ∷ c) = ap suc (length-shown c)
-
 header-shown : (w n : ℕ) (In : Header → Bool) (h : Header) → length h ≡ w → In h ≡ true
     → Shown w In (record { answer = showing n (headerLen w); bytes = writeHeader h })
 header-shown w n In h l i =

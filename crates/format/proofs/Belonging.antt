@@ -1,7 +1,5 @@
 -- The calls that answer yes or no of a header or of two cubes, and what each answer tells of the headers. Assumes nothing.
 --   diff-member-yes, diff-member-no, region-member-yes, region-member-no    whether a header is in a difference, in a region
---   Inside w a b               == every header of the cube a is in the cube b
---   Outside w a b              == a header that is in the cube a and not in the cube b
 --   cube-in-yes, cube-in-no    the first cube is inside the second, or a header shows that it is not
 --   wider-first, wider-second  the cube handed back holds the other
 --   wider-number-yes, wider-number-no    one of the two cubes holds the other, or headers show that neither does
@@ -24,6 +22,7 @@ use Rattle.format.specs.Records.{widthOf, differenceAt}
 use Rattle.format.specs.Files.{regionIn}
 use Rattle.format.specs.Told.{Told, silent, wide, lentCube, lentRecord, lentFile, lentHeader, yesOr, writing}
 use Rattle.format.specs.Calls.{cube-meet, cube-in, first, second, neither, wider, wider-number, diff-member, region-member}
+use Rattle.format.specs.Meaning.{Inside, Outside}
 use Rattle.format.proofs.Reached.{each}
 use Rattle.format.proofs.Coding.{fault-solid, lent-cube}
 use Rattle.format.proofs.Refusals.{lent-refusal, record-refusal, file-refusal, past}
@@ -44,7 +43,7 @@ module _ (w : ℕ) (s h : List ℕ) where
   unfolding diff-member outcome
   diff-member-test l =
       let k = wide w (lentRecord w s 1 (lentHeader w h (last (outcome (yesOr (inDifference (differenceAt w s 0) (readHeader w h))))))) in
-      past (λ x. x .answer .number) k (omega (arith, record-refusal w s true 0 0)) l .1 .1 .1 .1 .1
+      past (λ x. x .answer .number < 10) k (omega (arith, record-refusal w s true 0 0)) l .1 .1 .1 .1 .1
 
   pub diff-member-yes : diff-member w s h .answer .number ≡ 1 → inDifference (differenceAt w s 0) (readHeader w h) ≡ true
   diff-member-yes = yes-true _ _ diff-member-test
@@ -57,7 +56,7 @@ module _ (s h : List ℕ) where
   unfolding region-member outcome
   region-member-test l =
       let k = lentFile s 1 (lentHeader (widthOf s) h (last (outcome (yesOr (inRegion (regionIn s) (readHeader (widthOf s) h)))))) in
-      past (λ x. x .answer .number) k (omega (arith, file-refusal s)) l .1 .1 .1
+      past (λ x. x .answer .number < 10) k (omega (arith, file-refusal s)) l .1 .1 .1
 
   pub region-member-yes : region-member s h .answer .number ≡ 1 → inRegion (regionIn s) (readHeader (widthOf s) h) ≡ true
   region-member-yes = yes-true _ _ region-member-test
@@ -66,18 +65,12 @@ module _ (s h : List ℕ) where
   region-member-no = no-false _ _ region-member-test
 
 -- two cubes
-abbrev pub Inside : ℕ → List ℕ → List ℕ → Type 0
-Inside w a b = (h : Header) → holds (readCube w a) h ≡ true → holds (readCube w b) h ≡ true
-
-abbrev pub Outside : ℕ → List ℕ → List ℕ → Type 0
-Outside w a b = (h : Header) × (holds (readCube w a) h ≡ true) × (holds (readCube w b) h ≡ false)
-
 module _ (w : ℕ) (a b : List ℕ) where
   -- where no test refuses, both cubes are accepted
   cubes-past : (x : Told) → let y = outcome (wide w (lentCube w a 1 (lentCube w b 2 (last x)))) in
       y .answer .number < 10 → (lentFault w a ≡ 0) × (lentFault w b ≡ 0) × (y ≡ x)
   cubes-past x l =
-      let p = past (λ y. y .answer .number) (wide w (lentCube w a 1 (lentCube w b 2 (last x)))) (omega (arith, lent-refusal w a, lent-refusal w b)) l in
+      let p = past (λ y. y .answer .number < 10) (wide w (lentCube w a 1 (lentCube w b 2 (last x)))) (omega (arith, lent-refusal w a, lent-refusal w b)) l in
       (p .1 .1 .0, p .1 .1 .1 .0, p .1 .1 .1 .1)
 
   cube-in-test : cube-in w a b .answer .number < 10

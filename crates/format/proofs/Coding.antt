@@ -4,6 +4,8 @@
 --   lent-length, lent-cube   what an accepted lent cube is: of its length, and an accepted cube
 --   lent-fault               bytes of a cube's length are lent with the cube's fault
 --   read-length, read-padded the cube read has its w positions, and the bytes hold it with the unused places behind it
+--   four-codes               codes of the same numbers, before the same codes
+--   codes-free               bytes 255 hold free positions alone
 --   write-padded, read-write the bytes written hold the cube, and it is read again
 --   write-accepted           the bytes written of a cube without `none` are accepted
 --   write-read               an accepted cube is written again with the same bytes
@@ -18,9 +20,9 @@ use lib.ListN.{length, getD, take, drop, replicate, length-drop, take-append-dro
 use lib.Seq.{length-take-le, take-at, drop-at}
 use Rattle.model.specs.Cube.{Code, none, v0, v1, free, Cube, solid}
 use Rattle.model.proofs.Bools.{and-left, and-right}
-use Rattle.model.proofs.Padding.{pad}
+use Rattle.model.specs.Padding.{pad}
 use Rattle.format.specs.Rows.{last, row, isnt, outcome}
-use Rattle.format.specs.Bytes.{Bytes, cubeLen, codeOf, numberOf, codes, readCube, cubeBytes, writeCube, isFree, allFree, cubeRows, cubeFault, lentRows, lentFault}
+use Rattle.format.specs.Bytes.{unused, Bytes, cubeLen, codeOf, numberOf, codes, readCube, cubeBytes, writeCube, isFree, allFree, cubeRows, cubeFault, lentRows, lentFault}
 use Rattle.format.proofs.Reached.{reached, clean}
 
 -- positions
@@ -78,10 +80,6 @@ free-all (x ∷ c) e =
     let t = free-all c (and-right (isFree x) (allFree c) e) in
     λ i. h i ∷ t i
 
--- the places of a cube of w positions that hold no position
-abbrev pub unused : ℕ → ℕ
-unused w = 4 * cubeLen w - w
-
 module _ (w : ℕ) (bs : List ℕ) (l : length bs ≡ cubeLen w) where
   pub read-length : length (readCube w bs) ≡ w
   unfolding readCube
@@ -125,6 +123,15 @@ four : (x y z v : Code) (bs : List ℕ) → codes (sum (numberOf x) (numberOf y)
 four x y z v bs =
     let d = digits (numberOf x) (numberOf y) (numberOf z) (numberOf v) (number-lt x) (number-lt y) (number-lt z) (number-lt v) in
     rw (d .0, d .1, d .2, d .3, code-number x, code-number y, code-number z, code-number v)
+
+-- four codes that stand before the same ones
+pub four-codes : {a b c d a′ b′ c′ d′ : ℕ} (r : Cube) → (a ≡ a′) × (b ≡ b′) × (c ≡ c′) × (d ≡ d′)
+    → _≡_ {A = Cube} (codeOf a ∷ codeOf b ∷ codeOf c ∷ codeOf d ∷ r) (codeOf a′ ∷ codeOf b′ ∷ codeOf c′ ∷ codeOf d′ ∷ r)
+four-codes r h = λ i. codeOf (h .0 i) ∷ codeOf (h .1 i) ∷ codeOf (h .2 i) ∷ codeOf (h .3 i) ∷ r
+
+pub codes-free : (n : ℕ) → codes (replicate n 255) ≡ replicate (4 * n) free
+codes-free zero = refl
+codes-free (suc n) = let e : 4 * suc n ≡ suc (suc (suc (suc (4 * n)))) = omega arith in rw (e, codes-free n)
 
 pub write-padded : (n : ℕ) (c : Cube) → length c ≤ 4 * n → codes (cubeBytes n c) ≡ pad (4 * n - length c) c
 unfolding cubeBytes

@@ -1,5 +1,4 @@
 -- The calls that walk: emptiness of a difference and of a region, inclusion, and the ceiling. Assumes nothing.
---   Lent w s                 == W is in its bounds, and the record s lent beside it is accepted
 --   empty-yes, empty-yes-when    emptiness of a difference is yes exactly when the operand and the room are accepted, the allowance pays for the walk,
 --                            and no header is in the difference
 --   empty-no                 where it is no, the bytes written are a header in it
@@ -10,9 +9,9 @@
 --   in-yes, in-yes-when, in-no, in-undecided, in-undecided-when, in-count    the same of inclusion: a header is looked for in the first and outside the second
 use Prim.Native.Nat.{ℕ, _≤_, _<_}
 use native.Mathlib.Omega.{arith}
-use mathlib.Core.Path.{_≡_, refl, sym, ap, _∙_}
+use mathlib.Core.Path.{_≡_, sym, ap, _∙_}
 use mathlib.Core.List.{List, [], _∷_}
-use mathlib.Core.Bool.{Bool, true, false, not, _&&_}
+use mathlib.Core.Bool.{true, false, not, _&&_}
 use lib.ListN.{length}
 use Rattle.model.specs.Cube.{Header, Cube}
 use Rattle.model.specs.Difference.{Difference, Region, inDifference, inRegion}
@@ -24,19 +23,20 @@ use Rattle.model.proofs.Walking.{survivor-solid, survivor-length, survivor-in, 
 use Rattle.model.proofs.Setting.{in-subtraction, good-subtraction}
 use Rattle.model.proofs.Bound.{pieces-at-most-ceiling, capped-same}
 use Rattle.model.proofs.Allowed.{count-at-most-ceiling}
+use Rattle.model.proofs.Bools.{less-none, none-less}
 use Rattle.answer.specs.Answer.{counted}
 use Rattle.format.specs.Rows.{last}
-use Rattle.format.specs.Limits.{widest}
 use Rattle.format.specs.Bytes.{headerLen}
-use Rattle.format.specs.Records.{widthOf, differenceAt, differenceFault}
+use Rattle.format.specs.Records.{widthOf, differenceAt}
 use Rattle.format.specs.Files.{faultNumber, readFile, regionIn}
 use Rattle.format.specs.Told.{Told, silent, wide, lentRecord, lentFile, walking}
 use Rattle.format.specs.Calls.{diff-empty, region-empty, diff-in, ceiling-of}
+use Rattle.format.specs.Meaning.{Lent, Shown}
 use Rattle.format.proofs.Reached.{reached, each}
 use Rattle.format.proofs.Recording.{record-of, good-read}
 use Rattle.format.proofs.Filing.{file-of, file-good}
 use Rattle.format.proofs.Refusals.{record-refusal, file-refusal, past}
-use Rattle.format.proofs.Asking.{Looks, Shown, Asks, count-told, asks-yes, asks-yes-when, asks-no, asks-undecided, asks-undecided-when, asks-count}
+use Rattle.format.proofs.Asking.{Looks, Asks, count-told, asks-yes, asks-yes-when, asks-no, asks-undecided, asks-undecided-when, asks-count}
 
 -- what the walks look for
 difference-looks : (w : ℕ) (d : Difference) → Good w d → Looks w (inDifference d) (walk d)
@@ -72,11 +72,6 @@ inclusion-looks w a b f g =
     }
 
 -- a record lent beside W
-pub record Lent (w : ℕ) (s : List ℕ) : Type 0 where
-  pub some : 1 ≤ w
-  pub narrow : w ≤ widest
-  pub sound : differenceFault true w 0 s 0 ≡ 0
-
 lent-good : {w : ℕ} {s : List ℕ} → Lent w s → Good w (differenceAt w s 0)
 lent-good {w} {s} l = good-read (record-of true w 0 s 0 (l .sound))
 
@@ -87,7 +82,7 @@ module _ (w : ℕ) (s : List ℕ) (n room : ℕ) where
   empty-asks =
       let k = wide w (lentRecord w s 1 (walking w n room (walk (differenceAt w s 0)))) in
       record {
-        accepted = λ l. let p = past (λ x. x .answer .number) k (omega (arith, record-refusal w s true 0 0)) l in omega arith;
+        accepted = λ l. let p = past (λ x. x .answer .number < 10) k (omega (arith, record-refusal w s true 0 0)) l in omega arith;
         told = λ l. sym (reached 4 k (omega arith));
         looks = λ l. difference-looks w (differenceAt w s 0) (lent-good (l .0));
       }
@@ -158,7 +153,7 @@ module _ (s : List ℕ) (n room : ℕ) where
   region-asks =
       let k = lentFile s 1 (walking (widthOf s) n room (walkRegion (regionIn s))) in
       record {
-        accepted = λ l. let p = past (λ x. x .answer .number) k (omega (arith, file-refusal s)) l in (p .0, p .1 .0);
+        accepted = λ l. let p = past (λ x. x .answer .number < 10) k (omega (arith, file-refusal s)) l in (p .0, p .1 .0);
         told = λ l. sym (reached 2 k (l .0, (l .1, tt)));
         looks = λ l. region-looks (widthOf s) (regionIn s) (file-good (file-of s (l .0)));
       }
@@ -189,15 +184,6 @@ module _ (s : List ℕ) (n room : ℕ) where
   region-count = asks-count region-asks
 
 -- inclusion of two differences
-yes-in : (m n : Bool) → m && not n ≡ false → m ≡ true → n ≡ true
-yes-in true true e i = refl
-yes-in true false e i = sym e
-yes-in false n e i = cc
-
-in-yes-none : (m n : Bool) → (m ≡ true → n ≡ true) → m && not n ≡ false
-in-yes-none true n f = rw (f refl)
-in-yes-none false n f = refl
-
 module _ (w : ℕ) (s t : List ℕ) (n room : ℕ) where
   in-asks : Asks w n (λ h. inDifference (differenceAt w s 0) h && not (inDifference (differenceAt w t 0) h)) (walkInclusion (differenceAt w s 0) (differenceAt w t 0))
       (Lent w s × Lent w t × (headerLen w ≤ room)) (diff-in w s t n room)
@@ -207,7 +193,7 @@ module _ (w : ℕ) (s t : List ℕ) (n room : ℕ) where
       let b = differenceAt w t 0 in
       let k = wide w (lentRecord w s 1 (lentRecord w t 2 (walking w n room (walkInclusion a b)))) in
       record {
-        accepted = λ l. let p = past (λ x. x .answer .number) k (omega (arith, record-refusal w s true 0 0, record-refusal w t true 0 0)) l in omega arith;
+        accepted = λ l. let p = past (λ x. x .answer .number < 10) k (omega (arith, record-refusal w s true 0 0, record-refusal w t true 0 0)) l in omega arith;
         told = λ l. sym (reached 5 k (omega arith));
         looks = λ l. inclusion-looks w a b (lent-good (l .0)) (lent-good (l .1));
       }
@@ -215,12 +201,12 @@ module _ (w : ℕ) (s t : List ℕ) (n room : ℕ) where
   pub in-yes : diff-in w s t n room .answer .number ≡ 1
       → (Lent w s × Lent w t × (headerLen w ≤ room)) × (walkInclusion (differenceAt w s 0) (differenceAt w t 0) .pieces ≤ n)
       × ((h : Header) → inDifference (differenceAt w s 0) h ≡ true → inDifference (differenceAt w t 0) h ≡ true)
-  in-yes e = let y = asks-yes in-asks e in (y .0, y .1, λ h. yes-in _ _ (y .2 h))
+  in-yes e = let y = asks-yes in-asks e in (y .0, y .1, λ h. less-none _ _ (y .2 h))
 
   pub in-yes-when : Lent w s × Lent w t × (headerLen w ≤ room) → walkInclusion (differenceAt w s 0) (differenceAt w t 0) .pieces ≤ n
       → ((h : Header) → length h ≡ w → inDifference (differenceAt w s 0) h ≡ true → inDifference (differenceAt w t 0) h ≡ true)
       → diff-in w s t n room .answer .number ≡ 1
-  in-yes-when l m f = asks-yes-when in-asks l m (λ h z. in-yes-none _ _ (f h z))
+  in-yes-when l m f = asks-yes-when in-asks l m (λ h z. none-less _ _ (f h z))
 
   pub in-no : diff-in w s t n room .answer .number ≡ 2
       → (Lent w s × Lent w t × (headerLen w ≤ room)) × (walkInclusion (differenceAt w s 0) (differenceAt w t 0) .pieces ≤ n)

@@ -1,13 +1,16 @@
 -- A table's outcome from the facts on the way to a row: every test above it fails, and its own holds. Assumes nothing.
 --   reached n k h      the outcome of k is that of row n, counted from 0; a number past the rows is the last line
 --   each P k h         what holds of every row's outcome holds of the table's
+--   fails t h          a test that fails is false
+--   rest n k           the rows of k after the first n
+--   skipped n k h      where the first n tests fail (Skips), the outcome is that of the rows after them
 --   gives k r h        a number that a table gives is the table's outcome: two such numbers are one
 --   clean n k m e      where the outcome is n, which no row gives but the last line, every test fails
 use Prim.Native.Nat.{ℕ, zero, suc}
 use mathlib.Core.Path.{_≡_, refl}
 use mathlib.Core.Bool.{Bool, true, false, cond}
 use borrow.Author.Tests.{lt-ltb, le-ltb, eq-eqb, ne-eqb, ltb-true, ltb-false, eqb-true, eqb-false, not-true, not-false}
-use Rattle.format.specs.Rows.{Test, below, is, isnt, so, passes, Rows, last, row, outcome, Holds, Fails, Each, Gives}
+use Rattle.format.specs.Rows.{Test, below, is, isnt, so, passes, Rows, last, row, outcome, Holds, Fails, Each, Reaches, nth, Gives}
 
 holds : (t : Test) → Holds t → passes t ≡ true
 unfolding passes
@@ -16,7 +19,7 @@ holds (is m n) h = eq-eqb m n h
 holds (isnt m n) h = rw (ne-eqb m n h)
 holds (so b) h = h
 
-fails : (t : Test) → Fails t → passes t ≡ false
+pub fails : (t : Test) → Fails t → passes t ≡ false
 unfolding passes
 fails (below m n) h = le-ltb m n h
 fails (is m n) h = ne-eqb m n h
@@ -38,16 +41,6 @@ failed (isnt m n) e = eqb-true m n (not-false _ e)
 failed (so b) e = e
 
 module _ {A : Type 0} where
-  abbrev pub Reaches : ℕ → Rows A → Type 0
-  Reaches n (last a) = Unit {0}
-  Reaches zero (row t a k) = Holds t
-  Reaches (suc n) (row t a k) = Fails t × Reaches n k
-
-  abbrev pub nth : ℕ → Rows A → A
-  nth n (last a) = a
-  nth zero (row t a k) = a
-  nth (suc n) (row t a k) = nth n k
-
   pub reached : (n : ℕ) (k : Rows A) → Reaches n k → nth n k ≡ outcome k
   unfolding outcome
   reached n (last a) h = refl
@@ -62,6 +55,22 @@ module _ {A : Type 0} where
   unfolding outcome
   each P (last a) h = h
   each P (row t a k) h = one P t a (outcome k) (passes t) refl (h .0) (λ f. each P k (h .1 f))
+
+  abbrev pub rest : ℕ → Rows A → Rows A
+  rest zero k = k
+  rest (suc n) (last a) = last a
+  rest (suc n) (row t a k) = rest n k
+
+  abbrev pub Skips : ℕ → Rows A → Type 0
+  Skips zero k = Unit {0}
+  Skips (suc n) (last a) = Unit {0}
+  Skips (suc n) (row t a k) = Fails t × Skips n k
+
+  pub skipped : (n : ℕ) (k : Rows A) → Skips n k → outcome (rest n k) ≡ outcome k
+  unfolding outcome
+  skipped zero k h = refl
+  skipped (suc n) (last a) h = refl
+  skipped (suc n) (row t a k) h = rw (fails t (h .0)) (skipped n k (h .1))
 
 pub gives : (k : Rows ℕ) (r : ℕ) → Gives k r → r ≡ outcome k
 gives k r h = each (_≡_ r) k h

@@ -1,10 +1,10 @@
 -- Refusals have numbers from 10 on, so a smaller number tells that no test refused. Assumes nothing.
 --   Refusal f             == f is 0, no fault, or from 10 on
 --   lent-refusal, record-refusal, width-refusal, file-refusal    the faults of a lent cube, of a kind 2 and a kind 1 record and of a file are such
---   Refuses number k      == each row of the table k refuses, but for the last line
+--   Refuses Ok k          == no row of the table k gives what Ok holds of, but for the last line
 --   Past x k              == every test of k fails, and x is its last line
---   past                  where the number that the table gives is below 10, every test fails
-use Prim.Native.Nat.{ℕ, zero, suc, _+_, _*_, _≤_, _<_, min}
+--   past                  where Ok holds of what such a table gives, every test fails
+use Prim.Native.Nat.{ℕ, zero, suc, _+_, _*_, _≤_, min}
 use native.Mathlib.Omega.{arith}
 use mathlib.Core.Path.{_≡_, refl}
 use mathlib.Core.List.{List, []}
@@ -65,17 +65,16 @@ file-refusal s = either faultNumber (eqb (widthFault s) 0) _ (refused (widthFaul
 
 -- a table of refusals
 module _ {A : Type 0} where
-  abbrev pub Refuses : (A → ℕ) → Rows A → Type 0
-  Refuses number (last x) = Unit {0}
-  Refuses number (row t x k) = (Holds t → 10 ≤ number x) × Refuses number k
+  abbrev pub Refuses : (A → Type 0) → Rows A → Type 0
+  Refuses Ok (last x) = Unit {0}
+  Refuses Ok (row t x k) = (Holds t → Ok x → ⊥) × Refuses Ok k
 
   abbrev pub Past : A → Rows A → Type 0
   Past x (last y) = x ≡ y
   Past x (row t y k) = Fails t × Past x k
 
-  pub past : (number : A → ℕ) (k : Rows A) → Refuses number k → number (outcome k) < 10 → Past (outcome k) k
+  pub past : (Ok : A → Type 0) (k : Rows A) → Refuses Ok k → Ok (outcome k) → Past (outcome k) k
   unfolding outcome
-  past number (last x) r l = refl
-  past number (row t x k) r l =
-      each (λ y. number y < 10 → Past y (row t x k)) (row t x (last (outcome k)))
-      (λ h m. let n = r .0 h in absurd (omega arith), λ f m. (f, past number k (r .1) m)) l
+  past Ok (last x) r l = refl
+  past Ok (row t x k) r l =
+      each (λ y. Ok y → Past y (row t x k)) (row t x (last (outcome k))) (λ h m. absurd (r .0 h m), λ f m. (f, past Ok k (r .1) m)) l

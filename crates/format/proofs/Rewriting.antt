@@ -1,18 +1,15 @@
 -- What the calls write: where the number is 0, the bytes are accepted again, and hold exactly the headers of the operation. Assumes nothing.
---   Refusing, Passed, passed    a table whose every row but the last line refuses; where its number is 0, every test fails and the last line is told
---   Written w r bs           == the bytes bs are an accepted file of width w that holds the region r
 --   tidy-same                a tidy file is tidied to the same bytes
 --   tidy-again, region-tidy-again    so tidying changes nothing in a file that was written tidied, such as its own
 --   region-tidy-written, diff-intersect-written, region-intersect-written, diff-less-written, region-less-written
 --                            the region that each call writes
 --   in-region-tidy, in-diff-intersect, in-region-intersect, in-diff-less, in-region-less
 --                            the headers that are in what each call writes
---   WrittenCube w c bs       == the bytes bs are accepted as a lent cube of w positions, and it is c
 --   cube-meet-written, in-cube-meet, prefix-written, in-prefix-written    the cube that each call writes, and its headers
 --   equal-fields-written, in-equal-fields    the single record that equality of fields writes, and its headers
 use Prim.Native.Nat.{ℕ, _+_, _≤_}
 use native.Mathlib.Omega.{arith}
-use mathlib.Core.Path.{_≡_, refl, sym, ap, subst, _∙_}
+use mathlib.Core.Path.{_≡_, sym, ap, subst, _∙_}
 use mathlib.Core.List.{List}
 use mathlib.Core.Bool.{true, not, _&&_}
 use lib.ListN.{length, take, drop}
@@ -28,43 +25,30 @@ use Rattle.model.proofs.Tidying.{in-tidyRegion, tidy-tidy, tidyRegion-keeps, si
 use Rattle.model.proofs.Setting.{in-intersection, in-intersections, in-subtraction, in-subtractions, good-intersection, good-intersections, good-subtraction, good-subtractions}
 use Rattle.model.proofs.Field.{in-prefix, prefix-length, prefix-solid, in-equal, good-equal}
 use Rattle.answer.specs.Answer.{wrote}
-use Rattle.format.specs.Rows.{Rows, last, row, outcome, Holds, Fails}
+use Rattle.format.specs.Rows.{Rows, outcome}
 use Rattle.format.specs.Limits.{widest, mostCuts}
 use Rattle.format.specs.Bytes.{Bytes, cubeLen, bits, readCube, writeCube, lentFault}
 use Rattle.format.specs.Records.{widthOf, differenceAt, differenceFault, differenceBytes, fileBytes}
 use Rattle.format.specs.Files.{faultNumber, readFile, regionIn}
 use Rattle.format.specs.Told.{Told, wide, lentRecord, lentFile, writing, writingRegion}
 use Rattle.format.specs.Calls.{cube-meet, region-tidy, diff-intersect, region-intersect, diff-less, region-less, prefix, equal-fields}
-use Rattle.format.proofs.Reached.{reached, each}
+use Rattle.format.specs.Meaning.{Written, WrittenCube}
+use Rattle.format.proofs.Reached.{reached}
+use Rattle.format.proofs.Refusals.{Refuses, Past, past}
 use Rattle.format.proofs.Coding.{fault-solid, lent-length, lent-cube, lent-fault, read-length, write-length, write-bytes, write-accepted, read-write}
 use Rattle.format.proofs.Heading.{length-bits}
 use Rattle.format.proofs.Recording.{record-of, good-read, alone-difference, alone-accepted}
 use Rattle.format.proofs.Filing.{file-bytes, file-of, file-good, file-cuts, file-count, write-file-read, width-read, file-accepted, region-read}
 
--- a table whose rows all refuse, but for the last line
-abbrev pub Refusing : Rows Told → Type 0
-Refusing (last x) = Unit {0}
-Refusing (row t x k) = (Holds t → x .answer .number ≡ 0 → ⊥) × Refusing k
+-- what is written
+abbrev Wrote : Told → Type 0
+Wrote x = x .answer .number ≡ 0
 
--- every test fails, and x is the last line
-abbrev pub Passed : Told → Rows Told → Type 0
-Passed x (last y) = x ≡ y
-Passed x (row t y k) = Fails t × Passed x k
-
-pub passed : (k : Rows Told) → outcome k .answer .number ≡ 0 → Refusing k → Passed (outcome k) k
-unfolding outcome
-passed (last x) e r = refl
-passed (row t x k) e r =
-    each (λ y. y .answer .number ≡ 0 → Passed y (row t x k)) (row t x (last (outcome k))) (λ h z. absurd (r .0 h z), λ f z. (f, passed k z (r .1))) e
+passed : (k : Rows Told) → Wrote (outcome k) → Refuses Wrote k → Past (outcome k) k
+passed k e r = past Wrote k r e
 
 -- region files
-pub record Written (w : ℕ) (r : Region) (bs : List ℕ) : Type 0 where
-  pub bytes : Bytes bs
-  pub accepted : faultNumber (readFile bs) ≡ 0
-  pub width : widthOf bs ≡ w
-  pub region : regionIn bs ≡ r
-
-file-written : (w : ℕ) (r : Region) (room : ℕ) (x : Told) → All (Good w) r → 1 ≤ w → w ≤ widest → Passed x (writingRegion w r room)
+file-written : (w : ℕ) (r : Region) (room : ℕ) (x : Told) → All (Good w) r → 1 ≤ w → w ≤ widest → Past x (writingRegion w r room)
     → Written w r (x .bytes)
 file-written w r room x g some narrow p =
     let few = p .1 .0 in
@@ -93,7 +77,7 @@ pub tidy-again : {w : ℕ} (r : Region) {bs : List ℕ} → Written w (tidyRegio
     → region-tidy bs room ≡ record { answer = wrote (length bs); bytes = bs }
 tidy-again r {bs} f room fits = tidy-same bs room (f .bytes) (f .accepted) (rw (f .region) (tidy-tidy r)) fits
 
-tidied-written : (w : ℕ) (r : Region) (room : ℕ) (x : Told) → All (Good w) r → 1 ≤ w → w ≤ widest → Passed x (writingRegion w (tidyRegion r) room)
+tidied-written : (w : ℕ) (r : Region) (room : ℕ) (x : Told) → All (Good w) r → 1 ≤ w → w ≤ widest → Past x (writingRegion w (tidyRegion r) room)
     → Written w (tidyRegion r) (x .bytes)
 tidied-written w r room x g some narrow p = file-written w (tidyRegion r) room x (tidyRegion-keeps w r g) some narrow p
 
@@ -190,12 +174,7 @@ module _ (s t : List ℕ) (room : ℕ) (e : region-less s t room .answer .number
       in-written (subtractions (regionIn s) b) region-less-written h ∙ in-subtractions (regionIn s) b h
 
 -- cubes
-pub record WrittenCube (w : ℕ) (c : Cube) (bs : List ℕ) : Type 0 where
-  pub bytes : Bytes bs
-  pub accepted : lentFault w bs ≡ 0
-  pub cube : readCube w bs ≡ c
-
-cube-written : (w : ℕ) (c : Cube) (room : ℕ) (x : Told) → Sized w c → Passed x (writing (writeCube c) room) → WrittenCube w c (x .bytes)
+cube-written : (w : ℕ) (c : Cube) (room : ℕ) (x : Told) → Sized w c → Past x (writing (writeCube c) room) → WrittenCube w c (x .bytes)
 cube-written w c room x g p =
     let l : length (writeCube c) ≡ cubeLen w = write-length (cubeLen (length c)) c ∙ ap cubeLen (g .wide) in
     rw (p .1)
@@ -222,7 +201,7 @@ module _ (w : ℕ) (a b : List ℕ) (room : ℕ) (e : cube-meet w a b room .answ
   in-cube-meet h = rw (cube-meet-written .cube) (in-meet (readCube w a) (readCube w b) h)
 
 module _ (w s n m : ℕ) (value : List ℕ) (room : ℕ) (e : prefix w s n m value room .answer .number ≡ 0) where
-  prefix-facts : (s + m ≤ w) × (m ≤ length (bits value)) × Passed (prefix w s n m value room) (writing (writeCube (prefixCube w s m (bits value))) room)
+  prefix-facts : (s + m ≤ w) × (m ≤ length (bits value)) × Past (prefix w s n m value room) (writing (writeCube (prefixCube w s m (bits value))) room)
   unfolding prefix
   prefix-facts =
       let p = passed _ e (omega arith) in

@@ -1,10 +1,6 @@
 -- The calls that hand back a stretch of the file or a place in it. Assumes nothing.
---   differenceOf r d         == the difference of index d in the region r
---   cubesOf d                == the cubes of the difference d by index; 0 is the base
 --   map-at, listed-at        what stands at an index of a list made from another, and at one of an accepted file's offsets
---   Seen s d i v             == the stretch v of the file s is the cube of index i in its difference of index d
 --   view-told                where a view's number is 1, its stretch is that cube
---   Onward s place x         == the step x from a place gives the accepted record there, and the next place is that record's end
 --   read-on-record           where a step's number is 1, it is such a step
 --   read-on-end              where it is 2, the file is at its end
 --   read-on-stays            where it is not 1, the place stays
@@ -14,27 +10,21 @@ use native.Mathlib.Omega.{arith}
 use mathlib.Core.Path.{_≡_, refl, sym, ap, _∙_}
 use mathlib.Core.List.{List, [], _∷_, map}
 use mathlib.Core.Bool.{false}
-use lib.ListN.{length, getD, take, drop, length-map}
-use Rattle.model.specs.Cube.{Cube}
-use Rattle.model.specs.Difference.{Difference, less, Region}
+use lib.ListN.{length, getD, length-map}
+use Rattle.model.specs.Difference.{Difference, less}
 use Rattle.answer.specs.Answer.{said, fault}
 use Rattle.format.specs.Rows.{last, row, below, isnt}
-use Rattle.format.specs.Bytes.{cubeLen, readCube, cubeFault}
-use Rattle.format.specs.Records.{countAt, nextAt, widthOf, widthFault, cubeAt, cubesAt, differenceAt, differenceFault}
-use Rattle.format.specs.Files.{faultNumber, faultOffset, offsets, readFile, regionIn}
-use Rattle.format.specs.Calls.{Viewed, unseen, view, Step, startOf, read-on}
+use Rattle.format.specs.Bytes.{cubeLen}
+use Rattle.format.specs.Records.{countAt, widthOf, widthFault, cubeAt, cubesAt, differenceAt}
+use Rattle.format.specs.Files.{faultNumber, faultOffset, offsets, readFile}
+use Rattle.format.specs.Calls.{unseen, view, Step, startOf, read-on}
+use Rattle.format.specs.Meaning.{cubesOf, Seen, Onward}
 use Rattle.format.proofs.Reached.{each}
 use Rattle.format.proofs.Recording.{Record, each-cube, cuts-count}
 use Rattle.format.proofs.Filing.{Listed, ended, listed, file-of}
 use Rattle.format.proofs.Refusals.{width-refusal, record-refusal, file-refusal, past}
 
 -- by index
-abbrev pub differenceOf : Region → ℕ → Difference
-differenceOf r d = getD r d (less [] [])
-
-abbrev pub cubesOf : Difference → List Cube
-cubesOf d = d .base ∷ d .cuts
-
 pub map-at : {A : Type 0} (f : ℕ → A) (os : List ℕ) (d : ℕ) (x : A) → d < length os → getD (map f os) d x ≡ f (getD os d 0)
 map-at f [] d x h = absurd (omega arith)
 map-at f (o ∷ os) zero x h = refl
@@ -54,14 +44,6 @@ listed-at (listed {n = n} r rest) zero l = (n, r)
 listed-at (listed r rest) (suc d) l = listed-at rest d (omega arith)
 
 -- views
-pub record Seen (s : List ℕ) (d i : ℕ) (v : Viewed) : Type 0 where
-  pub difference : d < length (regionIn s)
-  pub index : i ≤ length (differenceOf (regionIn s) d .cuts)
-  pub size : v .size ≡ cubeLen (widthOf s)
-  pub inside : v .start + v .size ≤ length s
-  pub sound : cubeFault (widthOf s) (take (v .size) (drop (v .start) s)) ≡ 0
-  pub cube : readCube (widthOf s) (take (v .size) (drop (v .start) s)) ≡ getD (cubesOf (differenceOf (regionIn s) d)) i []
-
 seen : (s : List ℕ) (d i : ℕ)
     → let at = getD (offsets (readFile s)) d 0 in
     d < length (offsets (readFile s)) → i ≤ countAt s at → (n : ℕ) × Record false (widthOf s) n s at
@@ -88,17 +70,11 @@ view-told s d i e =
     (row (below (length (offsets (readFile s))) (d + 1)) (unseen (said 23))
     (row (below (countAt s at) i) (unseen (said 23))
     (last (record { answer = said 1; start = at + 5 + i * cubeLen (widthOf s); size = cubeLen (widthOf s) })))) in
-    let p = past (λ v. v .answer .number) k (omega (arith, file-refusal s)) (omega arith) in
+    let p = past (λ v. v .answer .number < 10) k (omega (arith, file-refusal s)) (omega arith) in
     let r = listed-at (file-of s (p .0) .list) d (omega arith) in
     rw (p .1 .1 .1) (seen s d i (omega arith) (p .1 .1 .0) r)
 
 -- reading on
-pub record Onward (s : List ℕ) (place : ℕ) (x : Step) : Type 0 where
-  pub width : widthFault s ≡ 0
-  pub begun : x .answer .offset ≡ startOf place
-  pub sound : differenceFault false (widthOf s) 0 s (startOf place) ≡ 0
-  pub end : x .place ≡ nextAt s (startOf place)
-
 module _ (s : List ℕ) (place : ℕ) where
   pub read-on-record : read-on s place .answer .number ≡ 1 → Onward s place (read-on s place)
   unfolding read-on

@@ -1,6 +1,7 @@
 -- What the bytes of a header and of a cube mean.
 --   Bytes bs                    == every number of bs is a byte
 --   headerLen w, cubeLen w      == how many bytes a header and a cube of w positions take
+--   unused w                    == how many places of a cube of w positions hold no position
 --   bitOf n                     == whether a number is not 0
 --   bits bs                     == the bits of bytes, eight to a byte, the one of weight 128 first
 --   readHeader w bs             == the header of w positions in bs
@@ -18,7 +19,7 @@
 --   cubeFault w bs              == what is wrong with the cube of w positions in as many bytes as it takes: 13, 14, or 0
 --   lentFault w bs              == the same of a lent cube, whose length may be wrong: 12, 13, 14, or 0
 -- Assumes nothing: these are definitions.
-use Prim.Native.Nat.{ℕ, zero, suc, _+_, _*_, _/_, _%_, _<_}
+use Prim.Native.Nat.{ℕ, zero, suc, _+_, _-_, _*_, _/_, _%_, _<_}
 use mathlib.Core.List.{List, [], _∷_}
 use mathlib.Core.Bool.{Bool, true, false, not, _&&_, _||_, cond}
 use lib.ListN.{length, getD, take, drop}
@@ -35,6 +36,10 @@ headerLen w = (w + 7) / 8
 
 abbrev pub cubeLen : ℕ → ℕ
 cubeLen w = (w + 3) / 4
+
+-- the places of a cube of w positions that hold no position
+abbrev pub unused : ℕ → ℕ
+unused w = 4 * cubeLen w - w
 
 abbrev pub bitOf : ℕ → Bool
 bitOf zero = false

@@ -5,3 +5,4 @@ pub mod Records
 pub mod Files
 pub mod Told
 pub mod Calls
+pub mod Meaning

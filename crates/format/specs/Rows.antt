@@ -5,9 +5,11 @@
 --   outcome k       == what the table k gives
 --   Holds, Fails    == a test, and its contrary, as facts
 --   Each P k        == P holds of each row's outcome where the tests above it fail and its own holds
+--   Reaches n k     == every test above row n of k fails, and its own holds; rows are counted from 0, and the last line comes after them
+--   nth n k         == what row n of k gives
 --   Gives k r       == the number r is what the table k gives, as facts that arithmetic reads
 -- Assumes nothing: these are definitions.
-use Prim.Native.Nat.{ℕ, _≤_, _<_}
+use Prim.Native.Nat.{ℕ, zero, suc, _≤_, _<_}
 use mathlib.Core.Path.{_≡_}
 use mathlib.Core.Bool.{Bool, true, false, cond, not}
 use lib.Dec.{ltb, eqb}
@@ -50,3 +52,13 @@ Each P (row t a k) = (Holds t → P a) × (Fails t → Each P k)
 
 abbrev pub Gives : Rows ℕ → ℕ → Type 0
 Gives k r = Each (_≡_ r) k
+
+abbrev pub Reaches : {A : Type 0} → ℕ → Rows A → Type 0
+Reaches n (last a) = Unit {0}
+Reaches zero (row t a k) = Holds t
+Reaches (suc n) (row t a k) = Fails t × Reaches n k
+
+abbrev pub nth : {A : Type 0} → ℕ → Rows A → A
+nth n (last a) = a
+nth zero (row t a k) = a
+nth (suc n) (row t a k) = nth n k

@@ -1,6 +1,8 @@
 -- Conjunctions and disjunctions of tests, taken apart and put together. Assumes nothing.
-use mathlib.Core.Path.{_≡_, refl}
-use mathlib.Core.Bool.{Bool, true, false, _&&_, _||_}
+--   and-left, and-right, and-both, and-swap, or-none   a conjunction and its parts; four tests in pairs; neither of two
+--   less-none, none-less   nothing is in the first and not in the second exactly where all of the first is in the second
+use mathlib.Core.Path.{_≡_, refl, sym}
+use mathlib.Core.Bool.{Bool, true, false, not, _&&_, _||_}
 
 pub and-left : (a b : Bool) → a && b ≡ true → a ≡ true
 and-left true b e = refl
@@ -23,3 +25,13 @@ and-swap false b c d = refl
 pub or-none : (a b : Bool) → a || b ≡ false → (a ≡ false) × (b ≡ false)
 or-none true b e = (e, cc)
 or-none false b e = (refl, e)
+
+-- nothing is in the first and not in the second exactly where what is in the first is in the second
+pub less-none : (m n : Bool) → m && not n ≡ false → m ≡ true → n ≡ true
+less-none m true e i = refl
+less-none true false e i = sym e
+less-none false false e i = i
+
+pub none-less : (m n : Bool) → (m ≡ true → n ≡ true) → m && not n ≡ false
+none-less true n f = rw (f refl)
+none-less false n f = refl

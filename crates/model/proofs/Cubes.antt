@@ -5,6 +5,10 @@
 --   within-in, within-out      a cube without `none` lies in another exactly when every header of it does
 --   same-is, same-self         `same` is equality
 --   meet-again, meet-self      meeting twice is meeting once
+--   length-meet, length-shown  the lengths of a meet and of the header shown
+use Prim.Native.Nat.{suc}
+use native.Mathlib.Omega.{arith}
+use lib.ListN.{length}
 use mathlib.Core.Path.{_≡_, refl, sym, ap, ap₂, _∙_}
 use mathlib.Core.List.{[], _∷_}
 use mathlib.Core.Bool.{Bool, true, false, _&&_, and-false, true≢false}
@@ -188,3 +192,14 @@ within-out (x ∷ a) (y ∷ b) s e =
           and-both (admits x (t .0)) (holds a (shown a)) (t .1) (in-shown a (and-right (coded x) (solid a) s)),
           ap (λ (z : Bool). z && holds b (shown a)) (t .2),
         )
+
+-- lengths
+pub length-meet : (a b : Cube) → length a ≡ length b → length (meet a b) ≡ length a
+length-meet [] [] e = refl
+length-meet [] (y ∷ b) e = omega arith
+length-meet (x ∷ a) [] e = omega arith
+length-meet (x ∷ a) (y ∷ b) e = omega (arith, length-meet a b (omega arith))
+
+pub length-shown : (c : Cube) → length (shown c) ≡ length c
+length-shown [] = refl
+length-shown (x ∷ c) = ap suc (length-shown c)

@@ -4,13 +4,13 @@
 -- Assumes nothing.
 use mathlib.Core.Path.{_≡_, refl, sym, _∙_}
 use mathlib.Core.List.{List, [], _∷_}
-use mathlib.Core.Bool.{Bool, true, false, not, _&&_, cond, and-true}
+use mathlib.Core.Bool.{Bool, true, false, not, cond}
 use borrow.Author.Tests.{not-true}
 use Rattle.model.specs.Cube.{Header, Cube, meet, solid, shares, shown}
 use Rattle.model.specs.Difference.{Difference, less, inDifference}
 use Rattle.model.specs.Algebra.{restored, subtraction}
 use Rattle.model.specs.Walk.{nothing, piece, walkInclusion}
-use Rattle.model.proofs.Bools.{and-left, and-right}
+use Rattle.model.proofs.Bools.{and-left, and-right, less-none}
 use Rattle.model.proofs.Setting.{in-subtraction}
 use Rattle.model.proofs.Walking.{SolidBases, region-survivor-shown, region-nothing-in}
 
@@ -24,10 +24,6 @@ restored-solid a (c ∷ cs) = go (shares (a .base) c) refl (restored-solid a cs)
         → SolidBases (cond g (less (meet (a .base) c) (a .cuts) ∷ restored a cs) (restored a cs))
     go true e ih = (e, ih)
     go false e ih = ih
-
-less-none : (m n : Bool) → m && not n ≡ false → m ≡ true → n ≡ true
-less-none m true e i = refl
-less-none m false e i = cc (and-true m)
 
 pub inclusion-nothing : (a b : Difference) → walkInclusion a b .survivor ≡ nothing → (h : Header) → inDifference a h ≡ true → inDifference b h ≡ true
 inclusion-nothing a b e h = less-none (inDifference a h) (inDifference b h) (sym (in-subtraction a b h) ∙ region-nothing-in (subtraction a b) e h)

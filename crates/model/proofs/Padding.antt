@@ -1,5 +1,4 @@
 -- Cubes with unused places behind their positions: as free positions they change nothing. Assumes nothing.
---   pad u c             the cube c with u free places behind it
 --   Lengths w cs        every cube of cs has w positions
 --   sized-lengths       cubes of w positions have them
 --   meet-pad, solid-pad, shares-pad, same-pad, within-pad, holds-pad, frees-pad    each test and operation on cubes
@@ -13,15 +12,14 @@ use mathlib.Core.List.{List, [], _∷_, _++_, map}
 use mathlib.Core.Bool.{Bool, true, false, _&&_, _||_, cond}
 use lib.ListN.{length, replicate}
 use Rattle.model.specs.Cube.{Header, Code, free, Cube, admits, holds, meetCode, meet, coded, solid, shares, sameCode, same, within}
-use Rattle.model.specs.Difference.{Difference, less, Region}
+use Rattle.model.specs.Difference.{Region}
 use Rattle.model.specs.Sized.{All, Sized}
 use Rattle.model.specs.Tidy.{among, tidyFrom}
 use Rattle.model.specs.Walk.{opens, other, children, Survivor, nothing, piece, Found, joined, next, inTurn, counted, visit}
 use Rattle.model.specs.Ceiling.{frees, ceilingFrom}
+use Rattle.model.specs.Padding.{pad, padSurvivor, padFound, padDifference}
 use Rattle.model.proofs.Parts.{children-length}
-
-abbrev pub pad : ℕ → Cube → Cube
-pad u c = c ++ replicate u free
+use Rattle.model.proofs.Cubes.{length-meet}
 
 abbrev pub Lengths : ℕ → List Cube → Type 0
 Lengths w cs = All (λ c. length c ≡ w) cs
@@ -43,12 +41,6 @@ meet-pad u [] [] e = free-meet u
 meet-pad u [] (y ∷ b) e = uneven (length b) e
 meet-pad u (x ∷ a) [] e = uneven (length a) (sym e)
 meet-pad u (x ∷ a) (y ∷ b) e = ap (λ (c : Cube). meetCode x y ∷ c) (meet-pad u a b (omega arith))
-
-pub length-meet : (a b : Cube) → length a ≡ length b → length (meet a b) ≡ length a
-length-meet [] [] e = refl
-length-meet [] (y ∷ b) e = uneven (length b) e
-length-meet (x ∷ a) [] e = uneven (length a) (sym e)
-length-meet (x ∷ a) (y ∷ b) e = ap suc (length-meet a b (omega arith))
 
 pub solid-pad : (u : ℕ) (c : Cube) → solid (pad u c) ≡ solid c
 solid-pad zero [] = refl
@@ -97,13 +89,6 @@ children-pad u (x ∷ p) (y ∷ c) e = go (opens x y) (children-pad u p c (omega
         ≡ map (pad u) (cond b ((other y ∷ p) ∷ map (λ q. y ∷ q) (children p c)) (map (λ q. x ∷ q) (children p c)))
     go true ih = ap (λ (l : List Cube). (other y ∷ pad u p) ∷ l) (ap (map (λ q. y ∷ q)) ih ∙ map-cons u y (children p c))
     go false ih = ap (map (λ q. x ∷ q)) ih ∙ map-cons u x (children p c)
-
-abbrev pub padSurvivor : ℕ → Survivor → Survivor
-padSurvivor u nothing = nothing
-padSurvivor u (piece p) = piece (pad u p)
-
-abbrev pub padFound : ℕ → Found → Found
-padFound u v = record { pieces = v .pieces; survivor = padSurvivor u (v .survivor) }
 
 next-pad : (u n : ℕ) (s : Survivor) (v : Found) → joined n (padSurvivor u s) (padFound u v) ≡ padFound u (joined n s v)
 next-pad u n nothing v = refl
@@ -155,9 +140,6 @@ map-snoc u (k ∷ ks) c = ap (λ (l : List Cube). pad u k ∷ l) (map-snoc u ks 
 lengths-snoc : (w : ℕ) (ks : List Cube) (c : Cube) → Lengths w ks → length c ≡ w → Lengths w (ks ++ (c ∷ []))
 lengths-snoc w [] c l e = (e, tt)
 lengths-snoc w (k ∷ ks) c l e = (l .0, lengths-snoc w ks c (l .1) e)
-
-abbrev pub padDifference : ℕ → Difference → Difference
-padDifference u d = less (pad u (d .base)) (map (pad u) (d .cuts))
 
 pub tidy-pad : (u w : ℕ) (base : Cube) (kept cuts : List Cube) → length base ≡ w → Lengths w kept → Lengths w cuts
     → tidyFrom (pad u base) (map (pad u) kept) (map (pad u) cuts) ≡ map (padDifference u) (tidyFrom base kept cuts)

@@ -10,7 +10,6 @@
 -- Assumes nothing.
 use Prim.Native.Nat.{ℕ}
 use native.Mathlib.Omega.{arith}
-use lib.ListN.{length}
 use mathlib.Core.Path.{_≡_, refl, sym, ap, _∙_}
 use mathlib.Core.List.{List, [], _∷_, _++_, append-nil, append-assoc}
 use mathlib.Core.Bool.{Bool, true, false, not, _&&_, _||_, and-true, or-assoc, or-false, or-self-left, and-or-distrib-right}
@@ -18,7 +17,7 @@ use Rattle.model.specs.Cube.{Header, Cube, holds, meet, shares, same}
 use Rattle.model.specs.Difference.{Difference, less, Region, anyHolds, inDifference, inRegion}
 use Rattle.model.specs.Sized.{All, Sized, Good}
 use Rattle.model.specs.Tidy.{among, tidyFrom, tidy, each, tidyRegion}
-use Rattle.model.proofs.Cubes.{in-meet, apart-none, same-is, meet-again}
+use Rattle.model.proofs.Cubes.{in-meet, apart-none, same-is, meet-again, length-meet}
 
 -- regions one after another
 pub in-append : (r s : Region) (h : Header) → inRegion (r ++ s) h ≡ inRegion r h || inRegion s h
@@ -103,7 +102,7 @@ pub in-tidyRegion : (r : Region) (h : Header) → inRegion (tidyRegion r) h ≡ 
 in-tidyRegion r h = in-each tidy h true (λ d. in-tidy d h ∙ sym (and-true (inDifference d h))) r ∙ and-true (inRegion r h)
 
 -- tidying twice
-each-append : (f : Difference → Region) (r s : Region) → each f (r ++ s) ≡ each f r ++ each f s
+pub each-append : (f : Difference → Region) (r s : Region) → each f (r ++ s) ≡ each f r ++ each f s
 each-append f [] s = refl
 each-append f (d ∷ r) s = rw (each-append f r s) (sym (append-assoc (f d) (each f r) (each f s)))
 
@@ -148,12 +147,6 @@ all-append P (x ∷ xs) ys p q = (p .0, all-append P xs ys (p .1) q)
 pub all-each : (P : Difference → Type 0) (f : Difference → Region) → ((d : Difference) → P d → All P (f d)) → (r : Region) → All P r → All P (each f r)
 all-each P f g [] p = tt
 all-each P f g (d ∷ r) p = all-append P (f d) (each f r) (g d (p .0)) (all-each P f g r (p .1))
-
-length-meet : (a b : Cube) → length a ≡ length b → length (meet a b) ≡ length a
-length-meet [] [] e = refl
-length-meet [] (y ∷ b) e = omega arith
-length-meet (x ∷ a) [] e = omega arith
-length-meet (x ∷ a) (y ∷ b) e = omega (arith, length-meet a b (omega arith))
 
 pub sized-meet : (w : ℕ) (a b : Cube) → Sized w a → Sized w b → shares a b ≡ true → Sized w (meet a b)
 sized-meet w a b p q e = record { wide = length-meet a b (omega arith) ∙ p .wide; filled = e }

@@ -7,3 +7,4 @@ pub mod Fields
 pub mod Walk
 pub mod Ceiling
 pub mod Alike
+pub mod Padding

@@ -1,18 +1,13 @@
 -- Two permitted outcomes agree: for the same lent bytes and numbers, each call's contract permits one outcome. Assumes nothing.
---   Permitted t old r new    == what the contract of a call with a buffer permits: the result r is that of t, and the buffer, old before, is now new,
---                               with the bytes of t over its front
---   OneOutcome t old         == two such outcomes have the same result, so the same number, operand, offset, count and bytes written, and the same buffer
---   agree                    so it is, whatever t tells
---   OneResult a, same-result the same of a contract that says only that the result is a
---   SameStretch r r′         == the references r and r′ hand back the same bytes at the same place
+--   agree                    a call with a buffer has one outcome, whatever it tells
+--   same-result              so has a contract that says only what the result is
 --   cube-meet-agrees, .. , permit-empty-agrees    so each public call has one outcome
 use Prim.Native.Nat.{ℕ}
 use mathlib.Core.Path.{_≡_, refl, sym, ap, ap₂, _∙_}
 use mathlib.Core.List.{List}
 use lib.ListN.{length}
 use denote.Ref.{RefT, now, ptr}
-use Rattle.answer.specs.declared.Answer.{Answer}
-use Rattle.format.specs.Told.{Told, over}
+use Rattle.format.specs.Told.{Told}
 use Rattle.format.specs.Calls.{cube-meet, cube-in, Which, first, second, neither, wider, wider-number, diff-member, region-member, region-tidy, diff-intersect, region-intersect, diff-less, region-less, diff-empty, region-empty, diff-in, ceiling-of, prefix, equal-fields, view, read-on}
 use Rattle.format.specs.Calls as calls
 use Rattle.cube.specs.Call.{WiderIs}
@@ -20,19 +15,10 @@ use Rattle.region.specs.declared.steps.Step.{Step}
 use Rattle.region.specs.declared.reader.Reader.{Reader}
 use Rattle.region.specs.Viewing.{StretchIs, stepped}
 use Rattle.region.specs.Stepping.{begun, turned}
-
-pub record Permitted (t : Told) (old : List ℕ) (r : Answer) (new : List ℕ) : Type 0 where
-  pub answer : r ≡ t .answer
-  pub buffer : new ≡ over old (t .bytes)
-
-abbrev pub OneOutcome : Told → List ℕ → Type 0
-OneOutcome t old = (r r′ : Answer) (new new′ : List ℕ) → Permitted t old r new → Permitted t old r′ new′ → (r ≡ r′) × (new ≡ new′)
+use Rattle.promises.specs.Outcome.{OneOutcome, OneResult, SameStretch}
 
 pub agree : (t : Told) (old : List ℕ) → OneOutcome t old
 agree t old r r′ new new′ p q = (p .answer ∙ sym (q .answer), p .buffer ∙ sym (q .buffer))
-
-abbrev pub OneResult : {A : Type 0} → A → Type 0
-OneResult {A} a = (r r′ : A) → r ≡ a → r′ ≡ a → r ≡ r′
 
 pub same-result : {A : Type 0} (a : A) → OneResult a
 same-result a r r′ p q = p ∙ sym q
@@ -91,9 +77,6 @@ pub view-number-agrees : (s : List ℕ) (d i : ℕ) → OneResult (view s d i .a
 view-number-agrees s d i = same-result _
 
 -- the calls that hand back a stretch or a place
-abbrev pub SameStretch : RefT (List ℕ) → RefT (List ℕ) → Type 0
-SameStretch r r′ = (now r ≡ now r′) × (ptr r ≡ ptr r′)
-
 pub wider-agrees : (w : ℕ) (a b r r′ : RefT (List ℕ)) → WiderIs w a b r → WiderIs w a b r′ → SameStretch r r′
 wider-agrees w a b r r′ p q = go (wider w (now a) (now b)) refl
   where

@@ -1,12 +1,4 @@
 -- Each call answers exactly where what it was lent is accepted, and then tells this; elsewhere it refuses. Assumes nothing.
---   Tells Ok y x             == x, told by a call, is no refusal exactly where Ok holds, and is then y
---   yesNo b, writes bs       == yes where b is true, else no; the bytes bs, written
---   Cubes w a b              == W is in its bounds, and both lent cubes are accepted
---   Bits n used bs           == bs are the bytes of n positions, and no bit is set after the first `used`
---   Accepted s               == the region file s is accepted
---   Writable w r room        == the region r is within the limits, and its file fits into that room
---   Prefixed w s n m value   == W, the field, the prefix length and the value are in their bounds
---   Fields w p q n           == W and the two fields are in their bounds, and n is at most 32 where the starts differ
 --   cube-meet-answers, cube-in-answers, wider-number-answers, diff-member-answers, region-member-answers, region-tidy-answers, diff-intersect-answers,
 --   region-intersect-answers, diff-less-answers, region-less-answers, diff-empty-answers, region-empty-answers, diff-in-answers, ceiling-answers,
 --   prefix-answers, equal-fields-answers    what each call answers, and where
@@ -19,7 +11,7 @@ use mathlib.Core.List.{List, [], _∷_}
 use mathlib.Core.Logic.{_↔_}
 use mathlib.Core.Bool.{Bool, true, false, cond, not, _||_, true≢false}
 use lib.Dec.{eqb}
-use lib.ListN.{length, drop}
+use lib.ListN.{length}
 use borrow.Author.Tests.{eqb-true, eqb-false}
 use Rattle.model.specs.Cube.{Cube, meet, shares, within}
 use Rattle.model.specs.Difference.{Difference, Region, inDifference, inRegion}
@@ -28,15 +20,15 @@ use Rattle.model.specs.Algebra.{intersection, intersections, subtraction, subtr
 use Rattle.model.specs.Fields.{prefixCube, unequal, equalFields}
 use Rattle.model.specs.Walk.{Found, decide, walk, walkRegion, walkInclusion}
 use Rattle.model.specs.Ceiling.{ceiling, capped}
-use Rattle.model.proofs.Padding.{length-meet}
 use Rattle.model.proofs.Field.{prefix-length, equal-count, equal-tidy}
-use Rattle.answer.specs.Answer.{said, counted, wrote}
+use Rattle.model.proofs.Cubes.{length-meet}
+use Rattle.answer.specs.Answer.{said, counted}
 use Rattle.format.specs.Rows.{Rows, last, row, is, below, isnt, so, passes, outcome}
-use Rattle.format.specs.Limits.{widest, mostCuts, mostDifferences, mostInput}
-use Rattle.format.specs.Bytes.{headerLen, cubeLen, bits, anyBit, readHeader, readCube, writeCube, lentFault}
+use Rattle.format.specs.Limits.{widest, mostCuts, mostInput}
+use Rattle.format.specs.Bytes.{headerLen, cubeLen, bits, readHeader, readCube, writeCube}
 use Rattle.format.specs.Records.{widthOf, differenceAt, differenceBytes, fileBytes}
-use Rattle.format.specs.Files.{readFile, faultNumber, regionIn}
-use Rattle.format.specs.Told.{Told, silent, wide, lentCube, lentRecord, lentFile, lentBits, yesOr, writing, anyLong, writingRegion, deciding, walking}
+use Rattle.format.specs.Files.{regionIn}
+use Rattle.format.specs.Told.{Told, silent, wide, lentCube, lentRecord, lentFile, lentBits, yesOr, writing, writingRegion, deciding, walking}
 use Rattle.format.specs.Calls.{cube-meet, cube-in, wider-number, diff-member, region-member, region-tidy, diff-intersect, region-intersect, diff-less, region-less, diff-empty, region-empty, diff-in, ceiling-of, prefix, equal-fields, question}
 use Rattle.format.proofs.Reached.{reached}
 use Rattle.format.proofs.Refusals.{lent-refusal, record-refusal, file-refusal, past}
@@ -44,57 +36,12 @@ use Rattle.format.proofs.Coding.{lent-length, read-length, write-length}
 use Rattle.format.proofs.Heading.{length-bits}
 use Rattle.format.proofs.Filing.{file-of}
 use Rattle.format.proofs.Rewriting.{equal-fields-written}
-use Rattle.format.proofs.Deciding.{Lent}
-
-pub record Tells (Ok : Type 0) (y x : Told) : Type 0 where
-  pub accepted : x .answer .number < 10 → Ok
-  pub told : Ok → x ≡ y
-
-abbrev pub yesNo : Bool → Told
-yesNo b = silent (said (cond b 1 2))
-
-abbrev pub writes : List ℕ → Told
-writes bs = record { answer = wrote (length bs); bytes = bs }
-
--- what is accepted
-pub record Cubes (w : ℕ) (a b : List ℕ) : Type 0 where
-  pub some : 1 ≤ w
-  pub narrow : w ≤ widest
-  pub first : lentFault w a ≡ 0
-  pub second : lentFault w b ≡ 0
-
-pub record Bits (n used : ℕ) (bs : List ℕ) : Type 0 where
-  pub long : length bs ≡ headerLen n
-  pub clear : anyBit (drop used (bits bs)) ≡ false
-
-abbrev pub Accepted : List ℕ → Type 0
-Accepted s = faultNumber (readFile s) ≡ 0
-
-pub record Writable (w : ℕ) (r : Region) (room : ℕ) : Type 0 where
-  pub cuts : anyLong r ≡ false
-  pub few : length r ≤ mostDifferences
-  pub fits : length (fileBytes w r) ≤ room
-
-pub record Prefixed (w s n m : ℕ) (value : List ℕ) : Type 0 where
-  pub some : 1 ≤ w
-  pub narrow : w ≤ widest
-  pub field : 1 ≤ n
-  pub inside : s + n ≤ w
-  pub fixed : 1 ≤ m
-  pub short : m ≤ n
-  pub given : Bits n m value
-
-pub record Fields (w p q n : ℕ) : Type 0 where
-  pub some : 1 ≤ w
-  pub narrow : w ≤ widest
-  pub field : 1 ≤ n
-  pub first : p + n ≤ w
-  pub second : q + n ≤ w
-  pub few : (p ≡ q → ⊥) → n ≤ 32
+use Rattle.format.specs.Meaning.{Lent}
+use Rattle.promises.specs.Accepted.{Tells, yesNo, writes, Cubes, Bits, Accepted, Writable, Prefixed, Fields}
 
 -- the parts of the tables
-abbrev number : Told → ℕ
-number x = x .answer .number
+abbrev answered : Told → Type 0
+answered x = x .answer .number < 10
 
 then : {P Q : Type 0} {x y z : Told} → Tells P y x → (P → Tells Q z y) → Tells (P × Q) z x
 then a b =
@@ -118,7 +65,7 @@ bits-tell : (n used : ℕ) (bs : List ℕ) (y : Told) → Tells (Bits n used bs)
 bits-tell n used bs y =
     let k = lentBits n used bs (last y) in
     record {
-      accepted = λ l. let p = past number k (omega arith) l in record { long = p .0; clear = p .1 .0 };
+      accepted = λ l. let p = past answered k (omega arith) l in record { long = p .0; clear = p .1 .0 };
       told = λ o. sym (reached 2 k (o .long, (o .clear, tt)));
     }
 
@@ -126,7 +73,7 @@ cubes-tell : (w : ℕ) (a b : List ℕ) (y : Told) → Tells (Cubes w a b) y (ou
 cubes-tell w a b y =
     let k = wide w (lentCube w a 1 (lentCube w b 2 (last y))) in
     record {
-      accepted = λ l. let p = past number k (omega (arith, lent-refusal w a, lent-refusal w b)) l in omega arith;
+      accepted = λ l. let p = past answered k (omega (arith, lent-refusal w a, lent-refusal w b)) l in omega arith;
       told = λ o. sym (reached 4 k (omega arith));
     }
 
@@ -134,7 +81,7 @@ lent-tells : (w : ℕ) (s : List ℕ) (y : Told) → Tells (Lent w s) y (outcome
 lent-tells w s y =
     let k = wide w (lentRecord w s 1 (last y)) in
     record {
-      accepted = λ l. let p = past number k (omega (arith, record-refusal w s true 0 0)) l in omega arith;
+      accepted = λ l. let p = past answered k (omega (arith, record-refusal w s true 0 0)) l in omega arith;
       told = λ o. sym (reached 3 k (omega arith));
     }
 
@@ -142,7 +89,7 @@ second-tells : (w : ℕ) (t : List ℕ) → 1 ≤ w → w ≤ widest → (y : To
 second-tells w t some narrow y =
     let k = lentRecord w t 2 (last y) in
     record {
-      accepted = λ l. let p = past number k (omega (arith, record-refusal w t true 0 0)) l in omega arith;
+      accepted = λ l. let p = past answered k (omega (arith, record-refusal w t true 0 0)) l in omega arith;
       told = λ o. sym (reached 1 k (omega arith));
     }
 
@@ -154,27 +101,27 @@ file-tells : (s : List ℕ) (operand : ℕ) (y : Told) → Tells (Accepted s) y 
 file-tells s operand y =
     let k = lentFile s operand (last y) in
     record {
-      accepted = λ l. let p = past number k (omega (arith, file-refusal s)) l in omega arith;
+      accepted = λ l. let p = past answered k (omega (arith, file-refusal s)) l in omega arith;
       told = λ o. sym (reached 1 k (omega arith));
     }
 
 writing-tells : (bs : List ℕ) (room : ℕ) → Tells (length bs ≤ room) (writes bs) (outcome (writing bs room))
 writing-tells bs room =
     let k = writing bs room in
-    record { accepted = λ l. let p = past number k (omega arith) l in omega arith; told = λ o. sym (reached 1 k (omega arith)) }
+    record { accepted = λ l. let p = past answered k (omega arith) l in omega arith; told = λ o. sym (reached 1 k (omega arith)) }
 
 region-tells : (w : ℕ) (r : Region) (room : ℕ) → Tells (Writable w r room) (writes (fileBytes w r)) (outcome (writingRegion w r room))
 region-tells w r room =
     let k = writingRegion w r room in
     record {
-      accepted = λ l. let p = past number k (omega arith) l in record { cuts = p .0; few = p .1 .0; fits = p .1 .1 .0 };
+      accepted = λ l. let p = past answered k (omega arith) l in record { cuts = p .0; few = p .1 .0; fits = p .1 .1 .0 };
       told = λ o. sym (reached 3 k (o .cuts, (o .few, (o .fits, tt))));
     }
 
 walking-tells : (w n room : ℕ) (v : Found) → Tells (headerLen w ≤ room) (deciding w (decide n v)) (outcome (walking w n room v))
 walking-tells w n room v =
     let k = walking w n room v in
-    record { accepted = λ l. let p = past number k (omega arith) l in omega arith; told = λ o. sym (reached 1 k (omega arith)) }
+    record { accepted = λ l. let p = past answered k (omega arith) l in omega arith; told = λ o. sym (reached 1 k (omega arith)) }
 
 -- two cubes
 cube-size : (w : ℕ) (c : Cube) → length c ≡ w → length (writeCube c) ≡ cubeLen w
@@ -255,7 +202,7 @@ module _ (s t : List ℕ) (room : ℕ) where
       same-width : (y : Told) → Tells (widthOf s ≡ widthOf t) y (outcome (row (isnt (widthOf s) (widthOf t)) (silent (said 20)) (last y)))
       same-width y =
           let k = row (isnt (widthOf s) (widthOf t)) (silent (said 20)) (last y) in
-          record { accepted = λ l. past number k (omega arith) l .0; told = λ o. sym (reached 1 k (o, tt)) }
+          record { accepted = λ l. past answered k (omega arith) l .0; told = λ o. sym (reached 1 k (o, tt)) }
 
   pub region-less-answers :
       let r = tidyRegion (subtractions (regionIn s) (differenceAt (widthOf s) t 0)) in
@@ -300,7 +247,7 @@ prefixed-tells w s n m value y =
     let k = prefixRows w s n m value (last y) in
     record {
       accepted = λ l.
-          let p = past number k (omega arith) l in
+          let p = past answered k (omega arith) l in
           record {
             some = omega arith;
             narrow = p .1 .0;
@@ -349,7 +296,7 @@ fields-tell w p q n y =
     let k = fieldRows w p q n (last y) in
     record {
       accepted = λ l.
-          let t = past number k (omega arith) l in
+          let t = past answered k (omega arith) l in
           record {
             some = omega arith;
             narrow = t .1 .0;

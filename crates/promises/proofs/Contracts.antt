@@ -1,17 +1,8 @@
--- What each public call's contract asks and permits: nothing is asked, and the outcomes of its definition are permitted and no other. The prover writes
--- each contract down as a caller has it: `Asked` is what a caller has to show of the arguments a, and `Learnt` what it learns of them, the result x and
--- the arguments at exit e, in the order of the call's parameters. Assumes nothing.
---   Promise n ps r Asked Learnt P    == the contract takes anything, and what it permits has P
+-- What each public call's contract asks and permits: nothing is asked, and the outcomes of its definition are permitted and no other. Assumes nothing.
 --   cube-meet-promise, .. , permit-empty-promise    so it is of each call, with the outcomes that its definition of specs/Calls.antt permits
-use Prim.Native.Nat.{ℕ}
 use mathlib.Core.Path.{_≡_}
-use mathlib.Core.List.{List}
 use lib.ListN.{length}
-use contract.Lifetimes.{Lfts}
 use denote.Ref.{now}
-use denote.Triple.Clauses.{AtExit}
-use borrow.Fn.Kind.{PK, RK}
-use borrow.Fn.Kinds.{In, Out, Dens, resT, endedOf}
 use Rattle.format.specs.Calls.{cube-meet, cube-in, wider-number, diff-member, region-member, region-tidy, diff-intersect, region-intersect, diff-less, region-less, view, read-on, diff-empty, region-empty, diff-in, ceiling-of, prefix, equal-fields}
 use Rattle.cube.specs.Call.{WiderIs}
 use Rattle.region.specs.Viewing.{StretchIs, stepped}
@@ -61,11 +52,7 @@ use Rattle.broker.proofs.permit_member.Kinds as permit-member-kinds
 use Rattle.broker.proofs.permit_member.Reads as permit-member-contract
 use Rattle.broker.proofs.permit_empty.Kinds as permit-empty-kinds
 use Rattle.broker.proofs.permit_empty.Reads as permit-empty-contract
-use Rattle.promises.proofs.Agreement.{Permitted}
-
-pub record Promise (n : ℕ) (ps : List (PK n)) (r : RK n) (Asked : In n ps) (Learnt P : Out n ps r) : Type 0 where
-  pub anything : (κs : Lfts n) (a : Dens κs ps) → Asked κs a
-  pub permits : (κs : Lfts n) (a : Dens κs ps) (x : resT r κs .Denot) (e : AtExit (endedOf n ps r) κs) → Learnt κs a x e → P κs a x e
+use Rattle.promises.specs.Outcome.{Permitted, Promise}
 
 -- cube
 pub cube-meet-promise : Promise 3 cube-meet-kinds.ps cube-meet-kinds.r cube-meet-contract.Asked cube-meet-contract.Learnt

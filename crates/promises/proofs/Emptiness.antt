@@ -1,16 +1,10 @@
 -- Demand 3 of the calls that walk. Assumes nothing.
---   Decides w n In v Ok x    == x is told by a call with the allowance n, which is accepted exactly where Ok holds and looks by the walk v for a header
---                               of w positions that In holds of: where the allowance pays for the walk, it is yes exactly where there is none and
---                               no, with one shown, exactly where there is one; it is undecided exactly where the walk has more pieces than the
---                               allowance; its count is the walk's pieces, or where it is undecided the allowance
 --   diff-empty-decides, region-empty-decides, diff-in-decides    so each of them does
---   ceilings r               == the ceilings of the differences of r, added up
 --   region-at-most-ceilings, in-at-most-ceilings    the count of a region's walk, and of inclusion's, is never above those of what is walked
 use Prim.Native.Nat.{ℕ, _+_, _≤_, _<_}
 use native.Mathlib.Omega.{arith}
 use mathlib.Core.Path.{_≡_, refl, sym, _∙_}
 use mathlib.Core.List.{List, [], _∷_}
-use mathlib.Core.Logic.{_↔_}
 use mathlib.Core.Bool.{Bool, true, false, not, _&&_, true≢false}
 use lib.Dec.{leb}
 use borrow.Author.Tests.{leb-true, leb-false}
@@ -21,25 +15,20 @@ use Rattle.model.specs.Walk.{Survivor, nothing, piece, Found, joined, walk, wal
 use Rattle.model.specs.Ceiling.{ceiling}
 use Rattle.model.proofs.Bound.{pieces-at-most-ceiling}
 use Rattle.model.proofs.Allowed.{decided-when, undecided-when}
+use Rattle.model.proofs.Bools.{less-none, none-less}
 use Rattle.format.specs.Rows.{Rows, outcome}
 use Rattle.format.specs.Bytes.{headerLen, readHeader}
 use Rattle.format.specs.Records.{widthOf, differenceAt}
 use Rattle.format.specs.Files.{regionIn}
 use Rattle.format.specs.Told.{Told, deciding}
 use Rattle.format.specs.Calls.{diff-empty, region-empty, diff-in}
-use Rattle.format.proofs.Asking.{Shown, count-told}
-use Rattle.format.proofs.Deciding.{Lent, empty-yes, empty-yes-when, empty-no, empty-undecided, empty-undecided-when, empty-count, region-yes, region-yes-when, region-no, region-undecided, region-undecided-when, region-count, in-yes, in-yes-when, in-no, in-undecided, in-undecided-when, in-count}
+use Rattle.format.specs.Meaning.{Shown, Lent}
+use Rattle.format.proofs.Asking.{count-told}
+use Rattle.format.proofs.Deciding.{empty-yes, empty-yes-when, empty-no, empty-undecided, empty-undecided-when, empty-count, region-yes, region-yes-when, region-no, region-undecided, region-undecided-when, region-count, in-yes, in-yes-when, in-no, in-undecided, in-undecided-when, in-count}
 use Rattle.promises.proofs.Quiet.{Mute, Ends, told-by}
-use Rattle.promises.proofs.Answering.{Accepted, Tells, diff-empty-answers, region-empty-answers, diff-in-answers}
-
-pub record Decides (w n : ℕ) (In : Header → Bool) (v : Found) (Ok : Type 0) (x : Told) : Type 0 where
-  pub yes : (x .answer .number ≡ 1) ↔ (Ok × (v .pieces ≤ n) × ((h : Header) → In h ≡ false))
-  pub no : (x .answer .number ≡ 2) ↔ (Ok × (v .pieces ≤ n) × ((h : Header) × (In h ≡ true)))
-  pub shown : x .answer .number ≡ 2 → Shown w In x
-  pub undecided : (x .answer .number ≡ 3) ↔ (Ok × (n < v .pieces))
-  pub yes-count : x .answer .number ≡ 1 → x .answer .count ≡ v .pieces
-  pub no-count : x .answer .number ≡ 2 → x .answer .count ≡ v .pieces
-  pub undecided-count : x .answer .number ≡ 3 → x .answer .count ≡ n
+use Rattle.promises.specs.Accepted.{Accepted, Tells}
+use Rattle.promises.proofs.Answering.{diff-empty-answers, region-empty-answers, diff-in-answers}
+use Rattle.promises.specs.Decides.{Decides, ceilings}
 
 -- what an allowance makes of a walk
 told-number : (w : ℕ) (d : Decision) → (1 ≤ deciding w d .answer .number) × (deciding w d .answer .number ≤ 3)
@@ -98,15 +87,6 @@ region-empty-decides s n room =
     (λ e. let y = region-undecided s n room e in (y .1, y .2)) (region-undecided-when s n room) (region-count s n room)
 
 -- inclusion
-none-out : (m n : Bool) → (m ≡ true → n ≡ true) → m && not n ≡ false
-none-out true n f = rw (f refl)
-none-out false n f = refl
-
-all-in : (m n : Bool) → m && not n ≡ false → m ≡ true → n ≡ true
-all-in m true e i = refl
-all-in true false e i = sym e
-all-in false false e i = i
-
 pub diff-in-decides : (w : ℕ) (s t : List ℕ) (n room : ℕ)
     → let a = differenceAt w s 0 in
     let b = differenceAt w t 0 in
@@ -115,16 +95,12 @@ diff-in-decides w s t n room =
     let a = differenceAt w s 0 in
     let b = differenceAt w t 0 in
     decides w n (λ h. inDifference a h && not (inDifference b h)) (walkInclusion a b) (diff-in-answers w s t n room)
-    (λ e. let y = in-yes w s t n room e in (y .1, λ h. none-out _ _ (y .2 h)))
-    (λ o m f. in-yes-when w s t n room (o .0 .0, o .0 .1, o .1) m (λ h l. all-in _ _ (f h)))
+    (λ e. let y = in-yes w s t n room e in (y .1, λ h. none-less _ _ (y .2 h)))
+    (λ o m f. in-yes-when w s t n room (o .0 .0, o .0 .1, o .1) m (λ h l. less-none _ _ (f h)))
     (λ e. let y = in-no w s t n room e in (y .1, y .2)) (λ e. let y = in-undecided w s t n room e in (y .1, y .2))
     (λ o. in-undecided-when w s t n room (o .0 .0, o .0 .1, o .1)) (λ o. in-count w s t n room (o .0 .0, o .0 .1, o .1))
 
 -- the ceilings of what is walked
-abbrev pub ceilings : Region → ℕ
-ceilings [] = 0
-ceilings (d ∷ r) = ceiling d + ceilings r
-
 pieces-at-most-ceilings : (r : Region) → walkRegion r .pieces ≤ ceilings r
 pieces-at-most-ceilings [] = omega arith
 pieces-at-most-ceilings (d ∷ r) = go (walk d .survivor) (pieces-at-most-ceilings r)

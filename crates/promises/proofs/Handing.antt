@@ -1,12 +1,11 @@
 -- What is handed back: the wider cube, a view's stretch, the next place of reading on. Assumes nothing.
 --   wider-answers            which of two accepted cubes is handed back
 --   wider-neither            none is handed back exactly where the separate question does not say yes
---   Indexed s d i            == the file s is accepted, and has a difference of index d with a cube of index i
 --   view-yes, view-no, view-refused    a view's number is 1 exactly there; it is 23 in any other accepted file, and else the file's refusal
 --   view-nothing             a view whose number is not 1 is a stretch of length 0
 --   read-on-next, read-on-last, read-on-refused, read-on-wide    a step at an accepted record, at the file's end, at a refused record, and in a file
 --                            whose kind 1 record is refused
-use Prim.Native.Nat.{ℕ, _≤_, _<_}
+use Prim.Native.Nat.{ℕ, _<_}
 use native.Mathlib.Omega.{arith}
 use mathlib.Core.Path.{_≡_, refl, sym, ap, _∙_}
 use mathlib.Core.List.{List, []}
@@ -25,8 +24,10 @@ use Rattle.format.specs.Calls.{first, second, neither, wider, wider-number, Vie
 use Rattle.format.proofs.Reached.{reached, each}
 use Rattle.format.proofs.Recording.{record-of, cuts-count}
 use Rattle.format.proofs.Filing.{file-of}
-use Rattle.format.proofs.Viewing.{differenceOf, map-at, listed-at}
-use Rattle.promises.proofs.Answering.{Cubes, Accepted, wider-number-answers}
+use Rattle.format.specs.Meaning.{differenceOf}
+use Rattle.format.proofs.Viewing.{map-at, listed-at}
+use Rattle.promises.specs.Accepted.{Cubes, Accepted, Indexed}
+use Rattle.promises.proofs.Answering.{wider-number-answers}
 
 -- the wider of two cubes
 module _ (w : ℕ) (a b : List ℕ) where
@@ -72,11 +73,6 @@ module _ (w : ℕ) (a b : List ℕ) where
   )
 
 -- a view
-pub record Indexed (s : List ℕ) (d i : ℕ) : Type 0 where
-  pub file : Accepted s
-  pub difference : d < length (regionIn s)
-  pub index : i ≤ length (differenceOf (regionIn s) d .cuts)
-
 module _ (s : List ℕ) (d i : ℕ) where
   cuts-at : Accepted s → d < length (offsets (readFile s)) → length (differenceOf (regionIn s) d .cuts) ≡ countAt s (getD (offsets (readFile s)) d 0)
   cuts-at e h =

@@ -1,18 +1,12 @@
 -- What is promised of every call, under document 01's words. Each theorem is proved by citing the module that did the work. Assumes nothing.
 --
--- Who believes these words and reads this page knows what is proved:
---   of model/specs        headers, cubes, differences, regions (Header, holds, inDifference, inRegion), the operations, the walk, its ceiling
---   of format/specs       what the bytes say (Bytes, Records, Files), a table of tests (Rows), what is told (Told), each call's definition (Calls)
---   Asked, Learnt         == a call's contract, as the prover has it (Contracts)
---   Permitted, OneOutcome == an outcome that a contract permits; that there is one (Agreement)
---   Tells Ok y x          == x is no refusal exactly where Ok holds, and is then y (Answering; with what is accepted: Cubes, Bits, Accepted, Writable,
---                            Prefixed, Fields, and Lent of format's Deciding)
---   Kept room x           == x writes nothing where it refuses, says yes or is undecided; what it writes fits (Quiet)
---   Inside, Outside       == every header of a cube is in another; one is not (format's Belonging)
---   Written, WrittenCube  == bytes that are accepted again, and hold that region or cube (format's Rewriting)
---   Decides w n In v Ok x == demand 3 (Emptiness); Shown w In x == the bytes written are a header that is in (format's Asking)
---   Indexed, Seen, Onward == there is such a cube (Handing); a view's stretch, a step of reading on (format's Viewing)
---   answers, told         == the answers of some steps of reading on, of some steps of a reader (region/specs/Stepping, with recordsBefore)
+-- Who believes these words and reads this page knows what is proved; each stands in a file of specs that opens with its glossary:
+--   model/specs              headers, cubes, differences, regions (Header, holds, inDifference, inRegion), the operations, the walk, its ceiling
+--   format/specs             what the bytes say (Bytes, Records, Files), a table of tests (Rows), what is told (Told), each call's definition (Calls), and
+--                            what answers mean (Meaning: Lent, Inside, Outside, Written, WrittenCube, Shown, Seen, Onward)
+--   region/specs/Stepping    the answers of some steps of reading on and of a reader (answers, told), and the records before an offset (recordsBefore)
+--   promises/specs           a contract and its outcomes (Outcome: Promise, Permitted, OneOutcome, Kept, Unwritten), what is accepted (Accepted: Tells, Cubes,
+--                            Bits, Accepted, Writable, Prefixed, Fields, Indexed), demand 3 (Decides)
 use Prim.Native.Nat.{ℕ, _+_, _-_, _/_, _%_, _*_, _^_, _≤_, _<_}
 use mathlib.Core.Path.{_≡_}
 use mathlib.Core.List.{List, [], _∷_, _++_, map}
@@ -29,24 +23,20 @@ use Rattle.model.specs.Walk.{walk, walkRegion, walkInclusion, decide}
 use Rattle.model.specs.Ceiling.{ceiling, mostPieces, capped}
 use Rattle.answer.specs.declared.Answer.{Answer}
 use Rattle.answer.specs.Answer.{said, fault, counted, placed}
-use Rattle.format.specs.Rows.{Rows, outcome}
+use Rattle.format.specs.Rows.{Rows, outcome, Reaches, nth}
 use Rattle.format.specs.Limits.{mostInput}
 use Rattle.format.specs.Bytes.{Bytes, headerLen, cubeLen, bitOf, bits, readHeader, codeOf, codes, readCube, writeCube}
 use Rattle.format.specs.Records.{nextAt, widthOf, widthFault, differenceAt, differenceFault, differenceBytes, fileBytes}
 use Rattle.format.specs.Files.{refused, whole, readFile, faultNumber, faultOffset, regionIn}
 use Rattle.format.specs.Told.{Told, silent, deciding}
 use Rattle.format.specs.Calls.{cube-meet, cube-in, first, second, neither, wider, wider-number, diff-member, region-member, region-tidy, diff-intersect, region-intersect, diff-less, region-less, diff-empty, region-empty, diff-in, ceiling-of, prefix, equal-fields, unseen, view, stay, startOf, read-on, question}
-use Rattle.format.proofs.Reached.{Reaches, nth}
 use Rattle.format.proofs.Reached
 use Rattle.format.proofs.Coding
 use Rattle.format.proofs.Heading
-use Rattle.format.proofs.Rewriting.{Written, WrittenCube}
+use Rattle.format.specs.Meaning.{Written, WrittenCube, Inside, Outside, Lent, Seen, Onward}
 use Rattle.format.proofs.Rewriting
-use Rattle.format.proofs.Belonging.{Inside, Outside}
 use Rattle.format.proofs.Belonging
-use Rattle.format.proofs.Deciding.{Lent}
 use Rattle.format.proofs.Deciding
-use Rattle.format.proofs.Viewing.{Seen, Onward}
 use Rattle.format.proofs.Viewing
 use Rattle.region.specs.declared.reader.Reader.{Reader}
 use Rattle.region.specs.Stepping.{answers, told, recordsBefore}
@@ -61,17 +51,15 @@ pub use Rattle.model.proofs.Bound.{pieces-at-most-ceiling}
 pub use Rattle.model.proofs.Allowed.{decided-when, undecided-when}
 pub use Rattle.model.proofs.Slips.{slips}
 pub use Rattle.format.proofs.Figures.{figures}
-use Rattle.promises.proofs.Agreement.{Permitted, OneOutcome}
+use Rattle.promises.specs.Outcome.{Permitted, OneOutcome, Kept, Unwritten}
 use Rattle.promises.proofs.Agreement
 pub use Rattle.promises.proofs.Agreement.{cube-meet-agrees, cube-in-agrees, wider-agrees, wider-number-agrees, diff-member-agrees, region-member-agrees, diff-intersect-agrees, region-intersect-agrees, diff-less-agrees, region-less-agrees, diff-empty-agrees, region-empty-agrees, diff-in-agrees, ceiling-agrees, region-tidy-agrees, prefix-agrees, equal-fields-agrees, view-agrees, view-number-agrees, read-on-agrees, first-step-agrees, begin-reading-agrees, step-on-agrees, permit-member-agrees, permit-empty-agrees}
 pub use Rattle.promises.proofs.Contracts.{cube-meet-promise, cube-in-promise, wider-promise, wider-number-promise, diff-member-promise, region-member-promise, view-promise, view-number-promise, read-on-promise, first-step-promise, diff-empty-promise, region-empty-promise, diff-in-promise, ceiling-promise, region-tidy-promise, diff-intersect-promise, region-intersect-promise, diff-less-promise, region-less-promise, prefix-promise, equal-fields-promise, permit-member-promise, permit-empty-promise}
-use Rattle.promises.proofs.Quiet.{Kept, Unwritten}
 use Rattle.promises.proofs.Quiet
-use Rattle.promises.proofs.Answering.{Tells, yesNo, writes, Cubes, Bits, Accepted, Writable, Prefixed, Fields}
+use Rattle.promises.specs.Accepted.{Tells, yesNo, writes, Cubes, Bits, Accepted, Writable, Prefixed, Fields, Indexed}
 use Rattle.promises.proofs.Answering
-use Rattle.promises.proofs.Handing.{Indexed}
 use Rattle.promises.proofs.Handing
-use Rattle.promises.proofs.Emptiness.{Decides, ceilings}
+use Rattle.promises.specs.Decides.{Decides, ceilings}
 use Rattle.promises.proofs.Emptiness
 
 -- THE MODEL. What document 01 claims of headers, cubes, differences and the walk, each claim once over the width, passed on above: the set meaning of the meet

@@ -1,18 +1,15 @@
 -- What each call leaves untouched. Assumes nothing.
---   Kept room x          == x is told by a call that was lent a buffer of that room: it writes nothing where it refuses, says yes or is undecided, and
---                           counts nothing where it refuses; what it writes is as long as its result says, and fits
 --   Mute k               == no row of the table k writes or counts anything, but for its last line
 --   Ends P k             == P holds of the last line of k where every test fails
 --   told-by              what holds of all that writes and counts nothing, and of the last line, holds of what such a table gives
 --   cube-in-kept, .. , question-kept    every call's outcome is Kept; of a call that is lent no buffer, in no room
---   Unwritten r          == the result r is a refusal, yes or undecided
---   nothing-written, untouched    then no byte is told, and the buffer is as it was
+--   nothing-written, untouched    where the result is a refusal, yes or undecided, no byte is told, and the buffer is as it was
 --   front, behind, room-kept      what is written stands at the buffer's front; behind it, and in length, the buffer is as it was
 use Prim.Native.Nat.{ℕ, _≤_}
 use native.Mathlib.Omega.{arith}
 use mathlib.Core.Path.{_≡_, refl, sym, ap, _∙_}
 use mathlib.Core.List.{List, [], _∷_}
-use mathlib.Core.Logic.{_⊎_, inl, inr}
+use mathlib.Core.Logic.{inl, inr}
 use mathlib.Core.Bool.{Bool, true, false}
 use lib.Dec.{eqb}
 use lib.ListN.{length, take, drop, length-append, length-drop}
@@ -27,15 +24,7 @@ use Rattle.format.specs.Told.{Told, over, deciding}
 use Rattle.format.specs.Calls.{cube-meet, cube-in, wider-number, diff-member, region-member, region-tidy, diff-intersect, region-intersect, diff-less, region-less, diff-empty, region-empty, diff-in, ceiling-of, prefix, equal-fields, question}
 use Rattle.format.proofs.Reached.{each}
 use Rattle.format.proofs.Deciding.{empty-no, region-no, in-no}
-use Rattle.promises.proofs.Agreement.{Permitted}
-
-pub record Kept (room : ℕ) (x : Told) : Type 0 where
-  pub refused : 10 ≤ x .answer .number → length (x .bytes) ≡ 0
-  pub yes : x .answer .number ≡ 1 → length (x .bytes) ≡ 0
-  pub undecided : x .answer .number ≡ 3 → length (x .bytes) ≡ 0
-  pub uncounted : 10 ≤ x .answer .number → x .answer .count ≡ 0
-  pub told : x .answer .written ≡ length (x .bytes)
-  pub fits : length (x .bytes) ≤ room
+use Rattle.promises.specs.Outcome.{Permitted, Kept, Unwritten}
 
 -- a table whose rows write nothing and count nothing, but for its last line
 abbrev pub Mute : Rows Told → Type 0
@@ -169,10 +158,6 @@ question-kept s = kept 40 _ (omega arith) (λ small. region-empty-kept s 1000000
 no-bytes : (bs : List ℕ) → length bs ≡ 0 → bs ≡ []
 no-bytes [] e = refl
 no-bytes (b ∷ bs) e = absurd (omega arith)
-
--- "Every refusal, and answers 1 and 3, write nothing."
-abbrev pub Unwritten : Answer → Type 0
-Unwritten r = (10 ≤ r .number) ⊎ (r .number ≡ 1) ⊎ (r .number ≡ 3)
 
 module _ {room : ℕ} {x : Told} (k : Kept room x) where
   pub nothing-written : Unwritten (x .answer) → (x .bytes ≡ []) × (x .answer .written ≡ 0)

@@ -15,7 +15,7 @@ use Rattle.format.specs.Records.{widthOf, differenceAt, differenceFault}
 use Rattle.format.specs.Files.{regionIn}
 use Rattle.format.specs.Told.{silent, wide, lentRecord, lentFile, lentHeader, yesOr}
 use Rattle.format.specs.Calls.{diff-member, region-member}
-use Rattle.format.proofs.Reached.{reached}
+use Rattle.format.proofs.Reached.{skipped, reached}
 use Rattle.format.proofs.Recording.{record-of}
 use Rattle.format.proofs.Filing.{file-of}
 use Rattle.cube.specs.Header.{spelledCube}
@@ -24,7 +24,6 @@ use Rattle.region.specs.Asked.{inRecord}
 use Rattle.region.specs.Reader.{FileIs}
 use Rattle.region.specs.declared.files.File.{File}
 use Rattle.region.proofs.Asking.{record-member, file-member}
-use Rattle.region.proofs.Tables.{past}
 use Rattle.region.proofs.Telling.{header-asked}
 
 pub diff-told : (w : ℕ) (s h c : List ℕ) (b : Bool) → (w ≡ 0 → ⊥) → w ≤ widest → differenceFault true w 0 s 0 ≡ 0 → codes c ≡ spelledCube h
@@ -34,7 +33,7 @@ diff-told w s h c b some narrow f e q =
     let x = readHeader w h in
     let d = inDifference (differenceAt w s 0) x in
     header-asked w h b d (λ z. q ∙ record-member w h c narrow (bits-clean w w h z .0) e (record-of true w 0 s 0 f))
-    ∙ past 3 (wide w (lentRecord w s 1 (lentHeader w h (yesOr d)))) (some, (narrow, (f, tt)))
+    ∙ skipped 3 (wide w (lentRecord w s 1 (lentHeader w h (yesOr d)))) (some, (narrow, (f, tt)))
 
 module _ (s h c : List ℕ) (r : File) (i : FileIs s c r) where
   pub region-told : r .number ≡ 0 → codes c ≡ spelledCube h → outcome (lentHeader (r .width) h (yesOr (r .held))) ≡ region-member s h
@@ -47,7 +46,7 @@ module _ (s h c : List ℕ) (r : File) (i : FileIs s c r) where
       let d = inRegion (regionIn s) x in
       ap (λ (v : ℕ). outcome (lentHeader v h (yesOr (r .held)))) (i .width)
       ∙ header-asked w h (r .held) d (λ z. i .held ∙ file-member w h c (a .width .narrow) (bits-clean w w h z .0) e (a .list))
-      ∙ past 1 (lentFile s 1 (lentHeader w h (yesOr d))) (f, tt)
+      ∙ skipped 1 (lentFile s 1 (lentHeader w h (yesOr d))) (f, tt)
 
   pub region-fault : (r .number ≡ 0 → ⊥) → silent (fault (r .number) 1 (r .offset)) ≡ region-member s h
   unfolding region-member

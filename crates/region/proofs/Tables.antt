@@ -1,43 +1,17 @@
 -- Tables whose tests are done apart from what follows them. Assumes nothing.
---   past n k h       where the first n tests fail, the outcome is that of the rows after them
 --   tests-stop       a number other than 0 that the tests give is the outcome
 --   tests-pass       where they give 0 and no row does, the last line is the outcome
 --   frame-stop       a number other than 0 that a record's length and kind give is what the table gives, whatever follows them
 --   frame-pass       where they give 0, each test of them fails
-use Prim.Native.Nat.{ℕ, zero, suc}
+use Prim.Native.Nat.{ℕ}
 use native.Mathlib.Omega.{arith}
 use mathlib.Core.List.{List}
 use mathlib.Core.Path.{_≡_, refl, sym, _∙_}
 use mathlib.Core.Bool.{Bool, true, false, cond}
-use Rattle.format.specs.Rows.{Test, passes, Rows, last, row, outcome, Fails, Gives}
+use Rattle.format.specs.Rows.{passes, Rows, last, row, outcome, Gives}
 use Rattle.format.specs.Records.{recordRows}
-use Rattle.format.proofs.Reached.{reached, gives, Clean, Marked, clean}
+use Rattle.format.proofs.Reached.{gives, Clean, Marked, clean}
 use Rattle.region.specs.Tests.{tests, final}
-
-fails : (t : Test) → Fails t → passes t ≡ false
-unfolding outcome
-fails t f = go (passes t) (reached 1 (row t true (last false)) (f, tt))
-  where
-    go : (b : Bool) → false ≡ cond b true false → b ≡ false
-    go true e = sym e
-    go false e = refl
-
-module _ {A : Type 0} where
-  abbrev pub rest : ℕ → Rows A → Rows A
-  rest zero k = k
-  rest (suc n) (last a) = last a
-  rest (suc n) (row t a k) = rest n k
-
-  abbrev pub Past : ℕ → Rows A → Type 0
-  Past zero k = Unit {0}
-  Past (suc n) (last a) = Unit {0}
-  Past (suc n) (row t a k) = Fails t × Past n k
-
-  pub past : (n : ℕ) (k : Rows A) → Past n k → outcome (rest n k) ≡ outcome k
-  unfolding outcome
-  past zero k h = refl
-  past (suc n) (last a) h = refl
-  past (suc n) (row t a k) h = rw (fails t (h .0)) (past n k (h .1))
 
 stops : (k : Rows ℕ) → (outcome (tests k) ≡ 0 → ⊥) → outcome (tests k) ≡ outcome k
 unfolding outcome

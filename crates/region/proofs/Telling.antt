@@ -10,17 +10,16 @@ use lib.Dec.{eqb}
 use Rattle.answer.specs.Answer.{said}
 use Rattle.format.specs.Rows.{Rows, row, isnt, outcome}
 use Rattle.format.specs.Told.{Told, silent, lentHeader, yesOr}
-use Rattle.format.proofs.Reached.{reached}
+use Rattle.format.proofs.Reached.{skipped, reached}
 use Rattle.cube.specs.Header.{bitsFault}
 use Rattle.cube.proofs.Headers.{bits-row}
-use Rattle.region.proofs.Tables.{past}
 
 module _ (w : ℕ) (h : List ℕ) where
   pub header-refused : (k : Rows Told) → (bitsFault w w h ≡ 0 → ⊥) → silent (said 11) ≡ outcome (lentHeader w h k)
   header-refused k f = reached 0 (row (isnt (bitsFault w w h) 0) (silent (said 11)) k) f ∙ bits-row w w h k
 
   pub header-passed : (k : Rows Told) → bitsFault w w h ≡ 0 → outcome k ≡ outcome (lentHeader w h k)
-  header-passed k z = past 1 (row (isnt (bitsFault w w h) 0) (silent (said 11)) k) (z, tt) ∙ bits-row w w h k
+  header-passed k z = skipped 1 (row (isnt (bitsFault w w h) 0) (silent (said 11)) k) (z, tt) ∙ bits-row w w h k
 
   pub header-asked : (a b : Bool) → (bitsFault w w h ≡ 0 → a ≡ b) → outcome (lentHeader w h (yesOr a)) ≡ outcome (lentHeader w h (yesOr b))
   header-asked a b f = go (eqb (bitsFault w w h) 0) refl

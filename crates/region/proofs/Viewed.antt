@@ -6,7 +6,6 @@ use native.Mathlib.Nat.{mul-le-mul-right}
 use native.Mathlib.Omega.{arith}
 use mathlib.Core.Path.{_≡_, refl, sym, ap, _∙_}
 use mathlib.Core.List.{List, [], _∷_}
-use mathlib.Core.Bool.{false}
 use lib.ListN.{length, getD}
 use Rattle.answer.specs.Answer.{said, fault}
 use Rattle.format.specs.Bytes.{cubeLen}
@@ -14,8 +13,8 @@ use Rattle.format.specs.Records.{countAt, widthOf}
 use Rattle.format.specs.Files.{readFile, offsets}
 use Rattle.format.specs.Calls.{unseen, view}
 use Rattle.format.proofs.Reached.{reached}
-use Rattle.format.proofs.Recording.{Record}
-use Rattle.format.proofs.Filing.{Listed, ended, listed, file-of}
+use Rattle.format.proofs.Filing.{file-of}
+use Rattle.format.proofs.Viewing.{listed-at}
 use Rattle.region.specs.Ahead.{ahead}
 use Rattle.region.specs.Reader.{FileIs}
 use Rattle.region.specs.declared.files.File.{File}
@@ -26,12 +25,6 @@ inside : (l : List ℕ) (d y z : ℕ) → d < length l → getD l d y ≡ getD l
 inside [] d y z h = absurd (omega arith)
 inside (x ∷ l) zero y z h = refl
 inside (x ∷ l) (suc d) y z h = inside l d y z (omega arith)
-
-listed-record : {w : ℕ} {s : List ℕ} {at n : ℕ} {os : List ℕ} → Listed w s at n os → (d : ℕ) → d < length os
-    → (m : ℕ) × Record false w m s (getD os d 0)
-listed-record (ended h) d l = absurd (omega arith)
-listed-record (listed {n} r rest) zero l = (n, r)
-listed-record (listed r rest) (suc d) l = listed-record rest d (omega arith)
 
 module _ (s h : List ℕ) (r : File) (f : FileIs s h r) (d i : ℕ) where
   pub view-fault : (r .number ≡ 0 → ⊥) → unseen (fault (r .number) 1 (r .offset)) ≡ view s d i
@@ -58,6 +51,6 @@ module _ (s h : List ℕ) (r : File) (f : FileIs s h r) (d i : ℕ) where
 
     pub view-room : i ≤ countAt s at → at + 5 + i * cubeLen (widthOf s) + cubeLen (widthOf s) ≤ length s
     view-room b =
-        let g = listed-record (file-of s (sym (f .number) ∙ n) .list) d (omega (arith, f .count)) .1 in
+        let g = listed-at (file-of s (sym (f .number) ∙ n) .list) d (omega (arith, f .count)) .1 in
         let k : i + 1 ≤ countAt s (getD (offsets (readFile s)) d 0) + 1 = omega (arith, rw offset at b) in
         rw offset (omega (arith, mul-le-mul-right (cubeLen (widthOf s)) k))

@@ -4,7 +4,7 @@
 --   wide-holds               words that hold 80 bytes have their codes
 --   unloaded, byte-out       bytes taken out of words have their codes
 --   word-more, row-more      one word, and one row, more
-use Prim.Native.Nat.{ℕ, zero, suc, _+_, _-_, _*_, _/_, _%_, _^_, _≤_, _<_}
+use Prim.Native.Nat.{ℕ, suc, _+_, _-_, _*_, _/_, _%_, _^_, _≤_, _<_}
 use native.Mathlib.Nat.{mod-mod, mul-add-mod-self-right, suc-mul, mul-le-mul-right}
 use native.Mathlib.Omega.{arith}
 use mathlib.Core.Path.{_≡_, refl, sym, ap, _∙_}
@@ -14,15 +14,15 @@ use lib.ListN.{length, getD, set, take, replicate, length-append, length-replica
 use lib.Seq.{getD-set-same, getD-set-other, length-take-le, getD-take, getD-append-add}
 use lib.Bits.{bitAnd, and-mask}
 use lib.Pow.{pow-add, high, shr-shr}
-use Rattle.model.specs.Cube.{free}
-use Rattle.model.proofs.Padding.{pad}
+use Rattle.model.specs.Padding.{pad}
 use Rattle.format.specs.Bytes.{codeOf, codes}
-use Rattle.format.proofs.Coding.{length-codes, code-at}
+use Rattle.format.proofs.Coding.{length-codes, code-at, codes-free}
 use Rattle.visits.specs.Cuts.{cubeOf, cutAt}
 use Rattle.visits.specs.Words.{placeAt, numberIn, wide, row}
 use Rattle.visits.specs.Loading.{padded, Holds, Loaded}
-use Rattle.visits.proofs.Digits.{same-or-not, below4, below-or, same-low, threes-at}
+use Rattle.visits.proofs.Digits.{same-or-not, below-or, same-low, threes-at}
 use Rattle.visits.proofs.Wide.{wide-ext}
+use Rattle.cube.proofs.Codes.{below4}
 
 pub padded-inside : (q : ℕ) (bs : List ℕ) (b : ℕ) → q ≤ length bs → b < q → getD (padded q bs) b 0 ≡ getD bs b 0
 unfolding padded
@@ -42,10 +42,6 @@ padded-long q bs l h = length-append (take q bs) (replicate (80 - q) 255) ∙ rw
 codes-append : (xs ys : List ℕ) → codes (xs ++ ys) ≡ codes xs ++ codes ys
 codes-append [] ys = refl
 codes-append (x ∷ xs) ys = rw (codes-append xs ys)
-
-codes-free : (n : ℕ) → codes (replicate n 255) ≡ replicate (4 * n) free
-codes-free zero = refl
-codes-free (suc n) = let e : 4 * suc n ≡ suc (suc (suc (suc (4 * n)))) = omega arith in rw (e, codes-free n)
 
 pub padded-codes : (q : ℕ) (bs : List ℕ) → codes (padded q bs) ≡ pad (320 - 4 * q) (cubeOf q bs)
 unfolding padded cubeOf

@@ -13,10 +13,10 @@ use lib.ListN.{length, take, drop, length-drop}
 use lib.Seq.{length-take-le}
 use Rattle.model.specs.Cube.{Cube, shares}
 use Rattle.model.specs.Walk.{piece, children, inTurn, counted, visit}
-use Rattle.model.proofs.Padding.{pad}
-use Rattle.format.specs.Bytes.{cubeLen, codes, cubeFault}
+use Rattle.model.specs.Padding.{pad}
+use Rattle.format.specs.Bytes.{cubeLen, codes, cubeFault, unused}
 use Rattle.format.specs.Records.{cubeAt, cubesAt}
-use Rattle.format.proofs.Coding.{unused, read-padded}
+use Rattle.format.proofs.Coding.{read-padded}
 use Rattle.visits.specs.Cuts.{cubeOf, cutAt, cutsFrom}
 
 pub room : (at n m q l : ℕ) → n ≡ suc m → at + n * q ≤ l → (at + q ≤ l) × (at + q + m * q ≤ l)

@@ -1,5 +1,5 @@
 -- Digits of numbers. Assumes nothing.
---   same-or-not, below-or   two numbers are the same or not; one is below the other or not; below4: one of four
+--   same-or-not, below-or   two numbers are the same or not; one is below the other or not
 --   or-none, xor-none       what `|` and `^` leave 0
 --   digit-and, digit-xor    the digits of base 2 of `&` and `^`; place-and, place-or: those of base 4 of `&` and `|`
 --   digit-below, digit-top  the digits below 2 ^ n of a number, and the digit 2 ^ n of one that has it at the top
@@ -36,14 +36,6 @@ pub below-or : (m n : ℕ) → (m < n) ⊎ (n ≤ m)
 below-or m zero = inr (omega arith)
 below-or zero (suc n) = inl (omega arith)
 below-or (suc m) (suc n) = ⊎-elim (λ (h : m < n). inl (omega arith)) (λ (h : n ≤ m). inr (omega arith)) (below-or m n)
-
--- a number below 4 is one of four
-pub below4 : (P : ℕ → Type 0) → P 0 → P 1 → P 2 → P 3 → (n : ℕ) → n < 4 → P n
-below4 P p0 p1 p2 p3 zero h = p0
-below4 P p0 p1 p2 p3 (suc zero) h = p1
-below4 P p0 p1 p2 p3 (suc (suc zero)) h = p2
-below4 P p0 p1 p2 p3 (suc (suc (suc zero))) h = p3
-below4 P p0 p1 p2 p3 (suc (suc (suc (suc n)))) h = absurd (omega arith)
 
 pub or-none : (x y : ℕ) → bitOr x y ≡ 0 → (x ≡ 0) × (y ≡ 0)
 or-none x y e = (omega (arith, or-add-and x y, and-le-l x y, and-le-r x y), omega (arith, or-add-and x y, and-le-l x y, and-le-r x y))

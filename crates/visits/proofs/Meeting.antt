@@ -22,6 +22,7 @@ use Rattle.visits.specs.Opening.{bit}
 use Rattle.visits.specs.Words.{row, cutsBelow}
 use Rattle.visits.specs.Alive.{clash, Alive, AgainstAt, Against}
 use Rattle.visits.proofs.Digits.{below-or, digit-and, digit-xor, digit-below, digit-top}
+use Rattle.visits.proofs.Wide.{bit-zero}
 
 -- a free position takes a value
 value-meets : (v y : Code) → (v ≡ v0) ⊎ (v ≡ v1) → coded (meetCode v y) ≡ coded (meetCode free y) && not (clash v y)
@@ -87,10 +88,6 @@ bit-true : (b : Bool) → bit b ≡ 1 → b ≡ true
 bit-true true e = refl
 bit-true false e = absurd (omega arith)
 
-bit-false : (b : Bool) → bit b ≡ 0 → b ≡ false
-bit-false true e = absurd (omega arith)
-bit-false false e = refl
-
 pub alive-meets : (cuts : List (List ℕ)) (n m : ℕ) (p : Cube) (x : ℕ) → Alive cuts n p x → 2 ^ m ≤ x → x < 2 ^ suc m → m < n → shares p (row cuts m) ≡ true
 alive-meets cuts n m p x a o u l =
     let e : x ≡ 2 ^ m + (x - 2 ^ m) = omega arith in
@@ -109,7 +106,7 @@ alive-passed cuts (suc n) m p x a h l =
     (λ (k : m < suc n).
     let low : m ≤ n = omega arith in
     let b : x < 2 ^ n = omega (arith, pow-mono low) in
-    let z : shares p (row cuts n) ≡ false = bit-false (shares p (row cuts n)) (sym (a .1 n (omega arith)) ∙ rw (div-eq-of-lt b)) in
+    let z : shares p (row cuts n) ≡ false = bit-zero (shares p (row cuts n)) (sym (a .1 n (omega arith)) ∙ rw (div-eq-of-lt b)) in
     rw z (alive-passed cuts n m p x (b, λ j d. a .1 j (omega arith)) h (omega arith)))
     (λ (k : suc n ≤ m). let e : m ≡ suc n = omega arith in rw e) (below-or m (suc n))
 

@@ -28,8 +28,9 @@ use Rattle.visits.specs.declared.reply.Reply.{Reply}
 use Rattle.visits.proofs.Openings.{first-opens, first-after}
 use Rattle.visits.proofs.Wide.{wide-length, wide-at, wide-given}
 use Rattle.visits.proofs.Settle.{settle-on, settle-le, settle-lt}
-use Rattle.visits.proofs.Digits.{below4, below-or}
+use Rattle.visits.proofs.Digits.{below-or}
 use Rattle.visits.proofs.Meeting.{alive-child, visit-met}
+use Rattle.cube.proofs.Codes.{below4}
 
 -- the numbers of two codes of which one opens the other
 pub record Opens (x y : ℕ) : Type 0 where

@@ -13,8 +13,9 @@ use lib.Seq.{take-set-lt}
 use lib.Bits.{bitAnd, and-mask}
 use Rattle.model.specs.Cube.{none, free, Cube}
 use Rattle.format.specs.Bytes.{codeOf, codes}
-use Rattle.format.proofs.Coding.{code-at}
+use Rattle.format.proofs.Coding.{code-at, four-codes}
 use Rattle.visits.specs.Cuts.{cubeOf, Given}
+use Rattle.cube.proofs.Codes.{below4}
 
 pub codes-take : (q : ℕ) (bs : List ℕ) → codes (take q bs) ≡ take (4 * q) (codes bs)
 codes-take zero bs = refl
@@ -25,14 +26,6 @@ pub codes-drop : (q : ℕ) (bs : List ℕ) → codes (drop q bs) ≡ drop (4 * q
 codes-drop zero bs = refl
 codes-drop (suc q) [] = let e : 4 * suc q ≡ suc (suc (suc (suc (4 * q)))) = omega arith in rw e
 codes-drop (suc q) (b ∷ bs) = let e : 4 * suc q ≡ suc (suc (suc (suc (4 * q)))) = omega arith in rw (e, codes-drop q bs)
-
--- a number below 4 is one of four
-below4 : (P : ℕ → Type 0) → P 0 → P 1 → P 2 → P 3 → (n : ℕ) → n < 4 → P n
-below4 P p0 p1 p2 p3 zero h = p0
-below4 P p0 p1 p2 p3 (suc zero) h = p1
-below4 P p0 p1 p2 p3 (suc (suc zero)) h = p2
-below4 P p0 p1 p2 p3 (suc (suc (suc zero))) h = p3
-below4 P p0 p1 p2 p3 (suc (suc (suc (suc n)))) h = absurd (omega arith)
 
 -- reading
 pub shift-code : (x i : ℕ) → bitAnd (x / 2 ^ (6 - 2 * (i % 4))) 3 ≡ x / 4 ^ (3 - i % 4) % 4
@@ -85,10 +78,6 @@ given3 : (b v : ℕ) → v ≤ 3 → b % 4 ≡ 3
 given3 b v h e = (omega arith, omega arith, omega arith, omega arith)
 
 -- one byte's four codes, and the rest
-four-codes : {a b c d a′ b′ c′ d′ : ℕ} (r : Cube) → (a ≡ a′) × (b ≡ b′) × (c ≡ c′) × (d ≡ d′)
-    → _≡_ {A = Cube} (codeOf a ∷ codeOf b ∷ codeOf c ∷ codeOf d ∷ r) (codeOf a′ ∷ codeOf b′ ∷ codeOf c′ ∷ codeOf d′ ∷ r)
-four-codes r h = λ i. codeOf (h .0 i) ∷ codeOf (h .1 i) ∷ codeOf (h .2 i) ∷ codeOf (h .3 i) ∷ r
-
 codes-give : (bs : List ℕ) (i v : ℕ) → i < 4 * length bs → v ≤ 3 → getD (codes bs) i none ≡ free
     → codes (set bs (i / 4) (given (getD bs (i / 4) 0) (i % 4) v)) ≡ set (codes bs) i (codeOf v)
 codes-give [] i v h k e = absurd (omega arith)

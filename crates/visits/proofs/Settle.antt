@@ -96,13 +96,13 @@ settle-stop a v u e = go (v .survivor) refl
             rw (settle-lt a (joined (v .pieces) nothing u) p, settle-lt a v k)
     go (piece p) q = ap (settle a) (λ i. record { pieces = v .pieces; survivor = sym q i })
 
-said-sum : (a : Allowance) (s : Survivor) → saidOf a s .allowance ≡ a
-said-sum a nothing = refl
-said-sum a (piece p) = refl
+pub said-allowance : (a : Allowance) (s : Survivor) → saidOf a s .allowance ≡ a
+said-allowance a nothing = refl
+said-allowance a (piece p) = refl
 
 settle-sum : (a : Allowance) (v : Found) → settle a v .allowance .left + settle a v .allowance .spent ≡ a .left + a .spent
 settle-sum a v =
-    ⊎-elim (λ k. rw (settle-le a v k, said-sum (after a (v .pieces)) (v .survivor)) (omega arith)) (λ k. rw (settle-lt a v k) (omega arith)) (le-or-lt (v .pieces) (a .left))
+    ⊎-elim (λ k. rw (settle-le a v k, said-allowance (after a (v .pieces)) (v .survivor)) (omega arith)) (λ k. rw (settle-lt a v k) (omega arith)) (le-or-lt (v .pieces) (a .left))
 
 pub settle-keeps : (a : Allowance) (v : Found) (d : Said) → d ≡ settle a v → d .allowance .left + d .allowance .spent ≡ a .left + a .spent
 settle-keeps a v d e = rw e (settle-sum a v)

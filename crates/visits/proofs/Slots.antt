@@ -29,9 +29,10 @@ use Rattle.visits.specs.Opening.{bit, isFixed}
 use Rattle.visits.specs.Words.{placeAt, numberIn, codeIn, wide, row, cutsBelow, eitherCode}
 use Rattle.visits.specs.Alive.{digit, Alive}
 use Rattle.visits.specs.Memory.{Finds, Fits, Remembers, Memory, Recalls, Keeps, Lies, Common, Slot}
-use Rattle.visits.proofs.Digits.{below4, same-or-not, below-or, or-none, xor-none, place-and, place-or, digit-below}
+use Rattle.visits.proofs.Digits.{same-or-not, below-or, or-none, xor-none, place-and, place-or, digit-below}
 use Rattle.visits.proofs.Wide.{wide-length, wide-at, row-length}
 use Rattle.visits.proofs.Meeting.{alive-passed, pow-double}
+use Rattle.cube.proofs.Codes.{below4}
 
 pub code-or : (a b : ℕ) → a < 4 → b < 4 → codeOf (bitOr a b) ≡ eitherCode (codeOf a) (codeOf b)
 code-or a b h k =

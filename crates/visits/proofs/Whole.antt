@@ -16,7 +16,8 @@ use denote.Enum.Declared.{tagOf}
 use lib.ListN.{length, getD, take, replicate}
 use Rattle.model.specs.Cube.{Code, Cube, shares}
 use Rattle.model.specs.Walk.{Survivor, nothing, piece, Found, visit}
-use Rattle.model.proofs.Padding.{pad, Lengths, shares-pad, padSurvivor, padFound, visit-pad}
+use Rattle.model.specs.Padding.{pad, padSurvivor, padFound}
+use Rattle.model.proofs.Padding.{Lengths, shares-pad, visit-pad}
 use Rattle.visits.specs.Cuts.{cubeOf, cutAt, cutsFrom}
 use Rattle.visits.specs.Settle.{Said, kept, view, after, saidOf, settle}
 use Rattle.visits.specs.Words.{wide, row, cutsBelow}
@@ -29,7 +30,7 @@ use Rattle.visits.specs.declared.allowance.Verdict.{Verdict}
 use Rattle.visits.specs.declared.allowance.Verdict.the-variants.{Covered, Survives, Undecided}
 use Rattle.visits.specs.declared.reply.Reply.{Reply}
 use Rattle.visits.proofs.allowance.Verdict.{the-type}
-use Rattle.visits.proofs.Settle.{settle-le, settle-lt}
+use Rattle.visits.proofs.Settle.{settle-le, settle-lt, said-allowance}
 use Rattle.visits.proofs.Places.{codes-take}
 use Rattle.visits.proofs.Step.{cut-length}
 use Rattle.visits.proofs.Digits.{below-or}
@@ -42,10 +43,6 @@ from-lengths : (q : ℕ) (s : List ℕ) (at n : ℕ) → at + n * q ≤ length s
 unfolding cutsFrom
 from-lengths q s at zero h = tt
 from-lengths q s at (suc n) h = let e = suc-mul n q in (cut-length q s at (omega arith), from-lengths q s (at + q) n (omega arith))
-
-said-allowance : (a : Allowance) (s : Survivor) → saidOf a s .allowance ≡ a
-said-allowance a nothing = refl
-said-allowance a (piece p) = refl
 
 with-allowance : (a b : Allowance) (s : Survivor) → _≡_ {A = Said} (record { allowance = a; verdict = saidOf b s .verdict; piece = saidOf b s .piece }) (saidOf a s)
 with-allowance a b nothing = refl

@@ -101,7 +101,7 @@ before-first (x ∷ p) (y ∷ c) j e h = go (opens x y) refl j h (before-first p
     go false q (suc j) l ih = ih j (omega arith) (omega arith)
 
 -- marks of which the highest digit is sought
-bit-zero : (b : Bool) → bit b ≡ 0 → b ≡ false
+pub bit-zero : (b : Bool) → bit b ≡ 0 → b ≡ false
 bit-zero true e = absurd (omega arith)
 bit-zero false e = refl
 

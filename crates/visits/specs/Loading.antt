@@ -11,7 +11,7 @@ use mathlib.Core.Path.{_≡_}
 use mathlib.Core.List.{List, _++_}
 use lib.ListN.{getD, take, replicate}
 use Rattle.model.specs.Cube.{none, Cube, shares}
-use Rattle.model.proofs.Padding.{pad}
+use Rattle.model.specs.Padding.{pad}
 use Rattle.format.specs.Bytes.{codeOf}
 use Rattle.visits.specs.Opening.{bit}
 use Rattle.visits.specs.Cuts.{cutAt}

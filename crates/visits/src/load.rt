@@ -2,7 +2,7 @@
 ghost use mathlib.Core.Path.{_≡_};
 ghost use Prim.Native.Nat.{ℕ, _+_, _-_, _*_, _≤_, _<_};
 ghost use lib.ListN.{length, getD, drop};
-ghost use Rattle.model.proofs.Padding.{pad};
+ghost use Rattle.model.specs.Padding.{pad};
 ghost use Rattle.format.specs.Bytes.{codes};
 ghost use Rattle.visits.specs.Cuts.{cutAt};
 ghost use Rattle.visits.specs.Words.{wide};

@@ -12,11 +12,11 @@ use lib.ListN.{length, take, drop, replicate}
 use lib.Seq.{take-take, take-at}
 use Rattle.model.specs.Cube.{free, Cube}
 use Rattle.model.specs.Walk.{Survivor, nothing, piece, Found, joined, next, visit, walk, Decision, undecided, empty, member, decide, decided}
-use Rattle.model.proofs.Padding.{padSurvivor, padFound, sized-lengths, visit-pad}
-use Rattle.format.specs.Bytes.{cubeLen, codes, cubeFault}
+use Rattle.model.specs.Padding.{padSurvivor, padFound}
+use Rattle.model.proofs.Padding.{sized-lengths, visit-pad}
+use Rattle.format.specs.Bytes.{cubeLen, codes, cubeFault, unused}
 use Rattle.format.specs.Records.{countAt, differenceAt}
 use Rattle.format.specs.Told.{deciding}
-use Rattle.format.proofs.Coding.{unused}
 use Rattle.format.proofs.Recording.{Record, each-cube, good-read}
 use Rattle.visits.specs.Cuts.{cubeOf, cutAt, cutsFrom}
 use Rattle.visits.specs.Settle.{view, kept, settle, decisionOf, decision}

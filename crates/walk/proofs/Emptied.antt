@@ -15,16 +15,15 @@ use Rattle.model.specs.Cube.{Cube}
 use Rattle.model.specs.Difference.{Difference, Region}
 use Rattle.model.specs.Sized.{All, Good}
 use Rattle.model.specs.Walk.{Survivor, nothing, piece, Found, joined, next, visit, walk, walkRegion}
-use Rattle.model.proofs.Padding.{padFound}
+use Rattle.model.specs.Padding.{padFound}
 use Rattle.model.proofs.Walking.{survivor-length}
 use Rattle.answer.specs.Answer.{said, fault}
 use Rattle.format.specs.Limits.{widest}
-use Rattle.format.specs.Bytes.{cubeLen, headerLen}
+use Rattle.format.specs.Bytes.{cubeLen, headerLen, unused}
 use Rattle.format.specs.Records.{countAt, nextAt, widthOf, differenceAt, differenceFault}
 use Rattle.format.specs.Files.{readFile, faultNumber, faultOffset, regionIn}
 use Rattle.format.specs.Told.{silent}
 use Rattle.format.specs.Calls.{diff-empty, region-empty}
-use Rattle.format.proofs.Coding.{unused}
 use Rattle.format.proofs.Recording.{record-of, good-read}
 use Rattle.format.proofs.Filing.{File, file-of, file-good}
 use Rattle.region.specs.Ahead.{regionAhead}

@@ -10,15 +10,14 @@ use Rattle.model.specs.Cube.{Cube}
 use Rattle.model.specs.Difference.{less}
 use Rattle.model.specs.Walk.{walkInclusion}
 use Rattle.model.specs.Algebra.{subtraction}
-use Rattle.model.proofs.Padding.{padDifference}
+use Rattle.model.specs.Padding.{padDifference}
 use Rattle.model.proofs.Setting.{good-subtraction}
 use Rattle.answer.specs.Answer.{said, fault}
 use Rattle.format.specs.Limits.{widest}
-use Rattle.format.specs.Bytes.{cubeLen, headerLen}
+use Rattle.format.specs.Bytes.{cubeLen, headerLen, unused}
 use Rattle.format.specs.Records.{differenceAt, differenceFault}
 use Rattle.format.specs.Told.{silent}
 use Rattle.format.specs.Calls.{diff-in}
-use Rattle.format.proofs.Coding.{unused}
 use Rattle.format.proofs.Recording.{Record, record-of, good-read}
 use Rattle.walk.specs.Lent.{Whole, lent}
 use Rattle.visits.specs.Settle.{settle, view}

@@ -14,16 +14,16 @@ use mathlib.Core.Bool.{Bool, true}
 use lib.ListN.{length, getD, take, drop, set, length-drop}
 use lib.Seq.{take-suc, take-suc-set, getD-drop}
 use Rattle.model.specs.Ceiling.{ceilingFrom, ceiling, capped}
-use Rattle.model.proofs.Padding.{pad, sized-lengths, ceiling-pad}
+use Rattle.model.specs.Padding.{pad}
+use Rattle.model.proofs.Padding.{sized-lengths, ceiling-pad}
 use Rattle.answer.specs.Answer.{said, fault, counted}
 use Rattle.format.specs.Limits.{widest}
-use Rattle.format.specs.Bytes.{cubeLen, codes}
+use Rattle.format.specs.Bytes.{cubeLen, codes, unused}
 use Rattle.format.specs.Records.{countAt, differenceAt, differenceFault}
 use Rattle.format.specs.Told.{silent}
 use Rattle.format.specs.Calls.{ceiling-of}
 use Rattle.format.specs.Rows.{last}
 use Rattle.format.proofs.Reached.{reached}
-use Rattle.format.proofs.Coding.{unused}
 use Rattle.format.proofs.Recording.{Record, record-of, each-cube, good-read}
 use Rattle.visits.specs.Cuts.{cubeOf, cutAt, cutsFrom}
 use Rattle.walk.proofs.Telling.{wide-zero, wide-above, wide-on, record-off, record-on}

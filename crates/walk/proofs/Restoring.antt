@@ -14,7 +14,8 @@ use Rattle.model.specs.Difference.{Difference, less, Region}
 use Rattle.model.specs.Sized.{All, Sized, Good}
 use Rattle.model.specs.Algebra.{restored, subtraction}
 use Rattle.model.specs.Walk.{nothing, Found, next, visit, walk, walkRegion, walkInclusion}
-use Rattle.model.proofs.Padding.{pad, padFound, padDifference, sized-lengths, shares-pad, meet-pad, visit-pad}
+use Rattle.model.specs.Padding.{pad, padFound, padDifference}
+use Rattle.model.proofs.Padding.{sized-lengths, shares-pad, meet-pad, visit-pad}
 use Rattle.model.proofs.Setting.{good-subtraction}
 use Rattle.visits.specs.Cuts.{cutAt, cutsFrom}
 use Rattle.walk.specs.Lent.{walkBack}

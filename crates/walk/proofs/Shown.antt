@@ -15,6 +15,7 @@ use lib.Dec.{eqb, eqb→eq}
 use lib.ListN.{length, getD, set, take, drop, length-append}
 use lib.Seq.{length-take-le, take-nil, take-append-le, drop-cons, append-snoc, getD-take, set-at, drop-drop}
 use Rattle.model.specs.Cube.{Header, Cube, shownBit, shown}
+use Rattle.model.proofs.Cubes.{length-shown}
 use Rattle.format.specs.Bytes.{codeOf, codes, weigh, bits, octet, headerLen, headerBytes, writeHeader}
 use Rattle.format.specs.Told.{over}
 use Rattle.format.proofs.Coding.{length-codes}
@@ -76,10 +77,6 @@ shown-drop zero c = refl
 shown-drop (suc n) [] = refl
 shown-drop (suc n) (x ∷ c) = shown-drop n c
 
-shown-length : (c : Cube) → length (shown c) ≡ length c
-shown-length [] = refl
-shown-length (x ∷ c) = ap suc (shown-length c)
-
 header-snoc : (n : ℕ) (h : Header) → headerBytes (suc n) h ≡ headerBytes n h ++ (octet (drop (8 * n) h) ∷ [])
 unfolding headerBytes
 header-snoc zero h = refl
@@ -136,7 +133,7 @@ module _ (piece : List ℕ) (long : length piece ≡ 80) where
 
   written : (w : ℕ) → w ≤ 320 → writeHeader (shown (take w (codes piece))) ≡ headerBytes (headerLen w) (take w (whole piece))
   written w h =
-      let l : length (shown (take w (codes piece))) ≡ w = shown-length (take w (codes piece)) ∙ length-take-le w (codes piece) (omega (arith, length-codes piece)) in
+      let l : length (shown (take w (codes piece))) ≡ w = length-shown (take w (codes piece)) ∙ length-take-le w (codes piece) (omega (arith, length-codes piece)) in
       rw (l, shown-take)
 
   -- no position is left over

@@ -4,31 +4,21 @@
 --   file-off, file-on                  a lent file
 --   room-off, room-on                  the header buffer's room
 use Prim.Native.Nat.{ℕ, _≤_, _<_}
-use mathlib.Core.Path.{_≡_, refl, sym, _∙_}
+use mathlib.Core.Path.{_≡_, _∙_}
 use mathlib.Core.List.{List}
-use mathlib.Core.Bool.{Bool, true, false, cond}
+use mathlib.Core.Bool.{true}
 use Rattle.model.specs.Walk.{Found, decide}
 use Rattle.answer.specs.Answer.{said, fault}
-use Rattle.format.specs.Rows.{Test, below, is, isnt, Rows, last, row, passes, outcome, Holds, Fails}
+use Rattle.format.specs.Rows.{Test, below, is, isnt, Rows, last, row, outcome, Holds, Fails}
 use Rattle.format.specs.Limits.{widest}
 use Rattle.format.specs.Bytes.{headerLen}
 use Rattle.format.specs.Records.{differenceFault}
 use Rattle.format.specs.Files.{readFile, faultNumber, faultOffset}
 use Rattle.format.specs.Told.{Told, silent, wide, lentRecord, lentFile, deciding, walking}
-use Rattle.format.proofs.Reached.{reached}
-
--- a test as its truth
-failed : (t : Test) → Fails t → passes t ≡ false
-unfolding outcome
-failed t f = go (passes t) (reached 1 (row t true (last false)) (f, tt))
-  where
-    go : (b : Bool) → false ≡ cond b true false → b ≡ false
-    go true e = sym e
-    go false e = refl
+use Rattle.format.proofs.Reached.{reached, skipped}
 
 on : {A : Type 0} (t : Test) (a : A) (k : Rows A) → Fails t → outcome k ≡ outcome (row t a k)
-unfolding outcome
-on t a k f = rw (failed t f)
+on t a k f = skipped 1 (row t a k) (f, tt)
 
 off : {A : Type 0} (t : Test) (a : A) (k : Rows A) → Holds t → a ≡ outcome (row t a k)
 off t a k h = reached 0 (row t a k) h

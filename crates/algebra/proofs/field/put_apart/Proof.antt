@@ -2,7 +2,7 @@ use mathlib.Core.Path.{ap, _∙_}
 use lib.ListN.{length, set}
 use Rattle.model.specs.Cube.{Cube}
 use Rattle.format.specs.Bytes.{codeOf, codes}
-use Rattle.algebra.proofs.Coded.{codes-filled}
+use Rattle.format.proofs.Coding.{codes-free}
 use borrow.Author.Needs.{needs}
 use Rattle.algebra.proofs.field.put_apart.Statement.{statement}
 use Rattle.algebra.proofs.field.put_apart.Tie as tie
@@ -24,7 +24,7 @@ returns c =
     let p = c .before .before .before .before .before .before .before .before .before .before .before .before .before .args in
     c .before .before .set-code2 .ensures
     ∙ ap (λ (z : Cube). set z (p .q) (codeOf (p .y)))
-    (c .before .before .before .before .before .before .set-code .ensures ∙ ap (λ (z : Cube). set z (p .p) (codeOf (p .x))) (ap codes (c .before .before .before .before .before .before .before .before .before .before .fill .ensures) ∙ codes-filled (length (p .c .now))))
+    (c .before .before .before .before .before .before .set-code .ensures ∙ ap (λ (z : Cube). set z (p .p) (codeOf (p .x))) (ap codes (c .before .before .before .before .before .before .before .before .before .before .fill .ensures) ∙ codes-free (length (p .c .now))))
 
 pub put-apart-spec : {M : Type 1} → statement M
 put-apart-spec =

@@ -5,7 +5,7 @@ use lib.ListN.{length, getD}
 use Rattle.model.specs.Fields.{bitCode, prefixCube}
 use Rattle.format.specs.Bytes.{bits, codes}
 use Rattle.format.proofs.Heading.{length-bits, bit-at}
-use Rattle.algebra.proofs.Coded.{codes-filled}
+use Rattle.format.proofs.Coding.{codes-free}
 use Rattle.algebra.proofs.Fielding.{prefix-none, prefix-more, bit-code}
 use borrow.Author.Needs.{needs}
 use Rattle.algebra.proofs.field.put_prefix.Statement.{statement}
@@ -25,7 +25,7 @@ loop-holds c =
     let z = c .before .before .before .before .before .before in
     let p = z .args in
     let k = c .before .before .fill .kept .0 in
-    (omega arith, refl, ap codes (c .before .before .fill .ensures) ∙ codes-filled (length (p .c .now)) ∙ rw (k) (prefix-none (4 * length (p .c .now)) (p .s) (bits (p .value .now)) (omega (arith, z .pre .0))))
+    (omega arith, refl, ap codes (c .before .before .fill .ensures) ∙ codes-free (length (p .c .now)) ∙ rw (k) (prefix-none (4 * length (p .c .now)) (p .s) (bits (p .value .now)) (omega (arith, z .pre .0))))
 
 shared-slice-read-bit : tie.Need-shared-slice-read-bit Inv-loop μ-loop
 shared-slice-read-bit c = search needs

@@ -1,7 +1,7 @@
 use Rattle.model.specs.Tidy.{tidyRegion}
-use Rattle.algebra.specs.Stops.{stopAt, piecesOf}
+use Rattle.algebra.specs.Stops.{stopAt, piecesOf, Stands}
 use Rattle.algebra.specs.Tidied.{held}
-use Rattle.algebra.specs.Totals.{made}
+use Rattle.algebra.specs.Totals.{made, stops, total, Counted}
 use Prim.Native.Nat.{_+_, _-_, _*_}
 use native.Mathlib.Omega.{arith}
 use mathlib.Core.Path.{_≡_, refl, sym, ap, _∙_}
@@ -12,8 +12,6 @@ use Rattle.model.specs.Difference.{Region}
 use Rattle.model.specs.Sized.{All}
 use Rattle.region.specs.Ahead.{ahead}
 use Rattle.algebra.specs.Whole.{Fits}
-use Rattle.algebra.specs.Stops.{Stands}
-use Rattle.algebra.specs.Totals.{stops, total, Counted}
 use Rattle.algebra.proofs.Counting.{count-none, count-over}
 use Rattle.algebra.proofs.Running.{stop-on, stop-room, left, left-begin, left-stop, left-turn, left-end, fits-here, fits-next, stands-here, stands-next, pairs-less}
 use borrow.Author.Needs.{needs}

@@ -1,6 +1,6 @@
 use mathlib.Core.List.{List}
 use Prim.Native.Nat.{ℕ}
-use Rattle.algebra.proofs.Taking.{slot}
+use Rattle.algebra.proofs.Taking.{slot, cut-apart, cut-covered, cut-again, cut-more}
 use Prim.Native.Nat.{_-_}
 use native.Mathlib.Omega.{arith}
 use mathlib.Core.Path.{_≡_, refl, sym, _∙_}
@@ -15,7 +15,6 @@ use Rattle.algebra.specs.Whole.{wholeAt}
 use Rattle.algebra.specs.Lay.{laid}
 use Rattle.algebra.proofs.Wholes.{whole-part}
 use Rattle.algebra.proofs.Meeting.{met-back}
-use Rattle.algebra.proofs.Taking.{cut-apart, cut-covered, cut-again, cut-more}
 use borrow.Author.Needs.{needs}
 use Rattle.algebra.proofs.tidying.take_cut.Statement.{statement}
 use Rattle.algebra.proofs.tidying.take_cut.Tie as tie

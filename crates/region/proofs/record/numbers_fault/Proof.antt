@@ -3,9 +3,9 @@ use native.Mathlib.Omega.{arith}
 use Rattle.format.specs.Rows.{last}
 use Rattle.format.specs.Limits.{differenceKind}
 use Rattle.format.specs.Records.{recordRows, differenceRows}
-use Rattle.format.proofs.Reached.{Clean}
+use Rattle.format.proofs.Reached.{rest, Clean}
 use Rattle.region.specs.Tests.{tests}
-use Rattle.region.proofs.Tables.{rest, frame-stop, frame-pass}
+use Rattle.region.proofs.Tables.{frame-stop, frame-pass}
 use Rattle.region.proofs.record.numbers_fault.Statement.{statement}
 use Rattle.region.proofs.record.numbers_fault.Tie as tie
 

@@ -3,8 +3,8 @@ use native.Mathlib.Omega.{arith}
 use Rattle.format.specs.Rows.{last}
 use Rattle.format.specs.Limits.{widthKind}
 use Rattle.format.specs.Records.{recordRows, widthRows, widthFault}
-use Rattle.format.proofs.Reached.{reached, gives, Clean}
-use Rattle.region.proofs.Tables.{rest, frame-stop, frame-pass}
+use Rattle.format.proofs.Reached.{rest, reached, gives, Clean}
+use Rattle.region.proofs.Tables.{frame-stop, frame-pass}
 use Rattle.region.proofs.width.width_fault.Statement.{statement}
 use Rattle.region.proofs.width.width_fault.Tie as tie
 

@@ -1,6 +1,5 @@
 -- `visits::alive::top` meets its contract. Assumes nothing.
-use Rattle.visits.proofs.Digits.{leading-small}
-use Rattle.visits.proofs.Digits.{Top, top-of}
+use Rattle.visits.proofs.Digits.{leading-small, Top, top-of}
 use lib.Count.{leading-le, leadingZeros}
 use Prim.Native.Nat.{_-_}
 use native.Mathlib.Omega.{arith}

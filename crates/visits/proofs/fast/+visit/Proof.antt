@@ -1,6 +1,6 @@
 -- `visits::fast::visit` meets its contract, as its own cycle of calls. A turn of the loop is that of the plain visit; what is new is that the cuts met
 -- are digits of a word, and that a child's walk may be remembered. Assumes nothing.
-use Rattle.visits.specs.Settle.{Said}
+use Rattle.visits.specs.Settle.{Said, settle, leftFrom}
 use Rattle.visits.specs.declared.allowance.Allowance.{Allowance}
 use borrow.Author.Needs.{needs}
 use Prim.Native.Nat.{ℕ, suc, _+_, _-_, _/_, _^_, _≤_, _<_}
@@ -16,7 +16,6 @@ use Rattle.model.specs.Walk.{visit as walked}
 use Rattle.model.proofs.Walking.{walk-positive}
 use Rattle.format.specs.Bytes.{codeOf}
 use Rattle.visits.specs.Opening.{firstOpen}
-use Rattle.visits.specs.Settle.{settle, leftFrom}
 use Rattle.visits.specs.Words.{wide, row, cutsBelow}
 use Rattle.visits.specs.Alive.{Alive, Against}
 use Rattle.visits.specs.Memory.{Finds, Memory}

@@ -2,9 +2,8 @@
 use Rattle.visits.proofs.Digits.{below-or}
 use lib.ListN.{getD-replicate}
 use mathlib.Core.Logic.{⊎-elim}
-use Rattle.visits.proofs.Carrying.{holds-free}
+use Rattle.visits.proofs.Carrying.{holds-free, padded-long, padded-codes, wide-holds, word-more}
 use lib.Seq.{getD-set-other}
-use Rattle.visits.proofs.Carrying.{padded-long, padded-codes, wide-holds, word-more}
 use Rattle.visits.specs.Loading.{padded, Holds}
 use Rattle.visits.specs.Cuts.{cutAt}
 use lib.ListN.{length, getD, drop, length-set, length-drop}

@@ -1,9 +1,8 @@
 -- `visits::load::unload` meets its contract. Assumes nothing.
-use Rattle.visits.proofs.Carrying.{byte-out}
+use Rattle.visits.proofs.Carrying.{byte-out, unloaded}
 use lib.Bits.{and-le-r}
 use lib.ListN.{length-set}
 use mathlib.Core.Path.{_∙_}
-use Rattle.visits.proofs.Carrying.{unloaded}
 use lib.ListN.{length, getD}
 use mathlib.Core.Path.{_≡_, refl}
 use native.Mathlib.Omega.{arith}

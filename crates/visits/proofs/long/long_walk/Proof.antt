@@ -8,7 +8,7 @@ use Rattle.visits.specs.Words.{wide}
 use Rattle.visits.specs.Settle.{settle}
 use Rattle.visits.specs.Cuts.{cubeOf, cutAt}
 use Rattle.model.proofs.Walking.{survivor-length}
-use Rattle.model.proofs.Padding.{pad}
+use Rattle.model.specs.Padding.{pad}
 use Rattle.model.specs.Cube.{shares}
 use lib.ListN.{length}
 use mathlib.Core.Path.{_≡_, refl, sym, ap, _∙_}

@@ -1,9 +1,8 @@
 -- `visits::table::alive_of` meets its contract. Assumes nothing.
-use Rattle.visits.proofs.Entering.{part-row}
+use Rattle.visits.proofs.Entering.{part-row, met-more}
 use Rattle.model.specs.Cube.{shares}
 use mathlib.Core.Bool.{true, false}
 use mathlib.Core.Path.{ap}
-use Rattle.visits.proofs.Entering.{met-more}
 use Rattle.visits.proofs.Carrying.{Down, down}
 use Rattle.visits.proofs.Meeting.{pow-double}
 use Rattle.visits.specs.Loading.{Met}

@@ -1,6 +1,5 @@
 -- `visits::table::enter` meets its contract. Assumes nothing.
-use Rattle.visits.proofs.Entering.{fresh}
-use Rattle.visits.proofs.Entering.{free-words, enter-fits, enter-turn, enter-end, agree-turn}
+use Rattle.visits.proofs.Entering.{fresh, free-words, enter-fits, enter-turn, enter-end, agree-turn}
 use Rattle.visits.proofs.Narrowing.{Opened, opened, took-cube, later-first}
 use Rattle.visits.proofs.Wide.{wide-length}
 use Rattle.visits.specs.Loading.{Entered}
