@@ -38,9 +38,7 @@ module _ (q : ℕ) (s t : List ℕ) where
   -- tidying
   tidy-made : (a x : ℕ) → made Tidy q s t a x ≡ tidy (wholeDifference q s a)
   unfolding made stopAt basesOf wholesAt
-  tidy-made a x =
-      append-nil (tidyFrom (wholeAt q s (a + 5)) [] (wholesAt q s (a + 5 + q) (countAt s a) ++ []))
-      ∙ rw (append-nil (wholesAt q s (a + 5 + q) (countAt s a)))
+  tidy-made a x = simp append-nil refl
 
   pub tidy-stops : 0 < length t → stops Tidy q t 0 ≡ 0 ∷ []
   unfolding stopAt

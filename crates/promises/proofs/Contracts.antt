@@ -1,4 +1,5 @@
 -- What each public call's contract asks and permits: nothing is asked, and the outcomes of its definition are permitted and no other. Assumes nothing.
+--   cube-meet-met, .. , permit-empty-met            each call's code meets its contract, as the proof of its crate has it
 --   cube-meet-promise, .. , permit-empty-promise    so it is of each call, with the outcomes that its definition of specs/Calls.antt permits
 use mathlib.Core.Path.{_≡_}
 use lib.ListN.{length}
@@ -52,6 +53,31 @@ use Rattle.broker.proofs.permit_member.Kinds as permit-member-kinds
 use Rattle.broker.proofs.permit_member.Reads as permit-member-contract
 use Rattle.broker.proofs.permit_empty.Kinds as permit-empty-kinds
 use Rattle.broker.proofs.permit_empty.Reads as permit-empty-contract
+pub use Rattle.cube.proofs.cube_meet.Met.{met as cube-meet-met}
+pub use Rattle.cube.proofs.«cube_in».Met.{met as cube-in-met}
+pub use Rattle.cube.proofs.wider_number.Met.{met as wider-number-met}
+pub use Rattle.cube.proofs.wider.Met.{met as wider-met}
+pub use Rattle.region.proofs.diff_member.Met.{met as diff-member-met}
+pub use Rattle.region.proofs.region_member.Met.{met as region-member-met}
+pub use Rattle.region.proofs.view.Met.{met as view-met}
+pub use Rattle.region.proofs.view_number.Met.{met as view-number-met}
+pub use Rattle.region.proofs.read_on.Met.{met as read-on-met}
+pub use Rattle.region.proofs.begin_reading.Met.{met as begin-reading-met}
+pub use Rattle.region.proofs.step_on.Met.{met as step-on-met}
+pub use Rattle.region.proofs.first_step.Met.{met as first-step-met}
+pub use Rattle.walk.proofs.diff_empty.Met.{met as diff-empty-met}
+pub use Rattle.walk.proofs.region_empty.Met.{met as region-empty-met}
+pub use Rattle.walk.proofs.«diff_in».Met.{met as diff-in-met}
+pub use Rattle.walk.proofs.ceiling.Met.{met as ceiling-met}
+pub use Rattle.algebra.proofs.region_tidy.Met.{met as region-tidy-met}
+pub use Rattle.algebra.proofs.diff_intersect.Met.{met as diff-intersect-met}
+pub use Rattle.algebra.proofs.region_intersect.Met.{met as region-intersect-met}
+pub use Rattle.algebra.proofs.diff_less.Met.{met as diff-less-met}
+pub use Rattle.algebra.proofs.region_less.Met.{met as region-less-met}
+pub use Rattle.algebra.proofs.prefix.Met.{met as prefix-met}
+pub use Rattle.algebra.proofs.equal_fields.Met.{met as equal-fields-met}
+pub use Rattle.broker.proofs.permit_member.Met.{met as permit-member-met}
+pub use Rattle.broker.proofs.permit_empty.Met.{met as permit-empty-met}
 use Rattle.promises.specs.Outcome.{Permitted, Promise}
 
 -- cube

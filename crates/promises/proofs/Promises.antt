@@ -54,7 +54,7 @@ pub use Rattle.format.proofs.Figures.{figures}
 use Rattle.promises.specs.Outcome.{Permitted, OneOutcome, Kept, Unwritten}
 use Rattle.promises.proofs.Agreement
 pub use Rattle.promises.proofs.Agreement.{cube-meet-agrees, cube-in-agrees, wider-agrees, wider-number-agrees, diff-member-agrees, region-member-agrees, diff-intersect-agrees, region-intersect-agrees, diff-less-agrees, region-less-agrees, diff-empty-agrees, region-empty-agrees, diff-in-agrees, ceiling-agrees, region-tidy-agrees, prefix-agrees, equal-fields-agrees, view-agrees, view-number-agrees, read-on-agrees, first-step-agrees, begin-reading-agrees, step-on-agrees, permit-member-agrees, permit-empty-agrees}
-pub use Rattle.promises.proofs.Contracts.{cube-meet-promise, cube-in-promise, wider-promise, wider-number-promise, diff-member-promise, region-member-promise, view-promise, view-number-promise, read-on-promise, first-step-promise, diff-empty-promise, region-empty-promise, diff-in-promise, ceiling-promise, region-tidy-promise, diff-intersect-promise, region-intersect-promise, diff-less-promise, region-less-promise, prefix-promise, equal-fields-promise, permit-member-promise, permit-empty-promise}
+pub use Rattle.promises.proofs.Contracts.{cube-meet-promise, cube-in-promise, wider-promise, wider-number-promise, diff-member-promise, region-member-promise, view-promise, view-number-promise, read-on-promise, first-step-promise, diff-empty-promise, region-empty-promise, diff-in-promise, ceiling-promise, region-tidy-promise, diff-intersect-promise, region-intersect-promise, diff-less-promise, region-less-promise, prefix-promise, equal-fields-promise, permit-member-promise, permit-empty-promise, cube-meet-met, cube-in-met, wider-number-met, wider-met, diff-member-met, region-member-met, view-met, view-number-met, read-on-met, begin-reading-met, step-on-met, first-step-met, diff-empty-met, region-empty-met, diff-in-met, ceiling-met, region-tidy-met, diff-intersect-met, region-intersect-met, diff-less-met, region-less-met, prefix-met, equal-fields-met, permit-member-met, permit-empty-met}
 use Rattle.promises.proofs.Quiet
 use Rattle.promises.specs.Accepted.{Tells, yesNo, writes, Cubes, Bits, Accepted, Writable, Prefixed, Fields, Indexed}
 use Rattle.promises.proofs.Answering
@@ -67,8 +67,8 @@ use Rattle.promises.proofs.Emptiness
 -- survives the walk is in and shows a header, and no survivor means that none is (`in-children`, .. , `inclusion-survivor`); how many pieces there are, and
 -- what an allowance makes of them (`walk-positive`, .. , `undecided-when`). The rest of the page says it of the calls.
 
--- THE CONTRACTS. `cube-meet-promise`, .. , `permit-empty-promise`, passed on above: each call takes anything, and its contract permits the outcomes of its
--- definition and no other. That the code meets its contract, and ends, is what proving its crate shows.
+-- THE CONTRACTS. `cube-meet-met`, .. , `permit-empty-met`, passed on above: each call's code meets its contract, ends, and does nothing undefined.
+-- `cube-meet-promise`, .. , `permit-empty-promise`: each call takes anything, and its contract permits the outcomes of its definition and no other.
 
 -- AGREEMENT. "That two permitted outcomes agree is proved". Stated once, and cited for each call by `cube-meet-agrees`, .. , `permit-empty-agrees`, passed on
 -- above.
