@@ -14,7 +14,7 @@ use Rattle.format.specs.Bytes.{codes}
 use Rattle.cube.specs.Pair.{andBytes, andInto}
 use Rattle.cube.proofs.Codes.{codes-and, length-and}
 use Rattle.cube.proofs.Pairs.{into-over}
-use Rattle.algebra.specs.Whole.{wholeAt}
+use Rattle.cube.specs.Whole.{cubeOf, wholeAt}
 use Rattle.algebra.specs.Lay.{laid}
 use Rattle.algebra.proofs.Laying.{tail-back}
 
@@ -26,7 +26,7 @@ module _ (base s : List ℕ) (at : ℕ) (fits : at + length base ≤ length s) w
   met-length = length-and base (take (length base) (drop at s)) as-long
 
   pub met-codes : codes (andBytes base (take (length base) (drop at s))) ≡ meet (codes base) (wholeAt (length base) s at)
-  unfolding wholeAt
+  unfolding wholeAt cubeOf
   met-codes = codes-and base (take (length base) (drop at s)) as-long
 
   pub met-back : (old ys : List ℕ) (o k : ℕ) → o + length base ≤ length old → k ≡ length old - o

@@ -16,8 +16,8 @@ use Rattle.model.specs.Tidy.{tidyFrom, tidy, each, tidyRegion}
 use Rattle.model.specs.Algebra.{intersection, intersections, restored, subtraction, subtractions}
 use Rattle.model.proofs.Tidying.{each-append}
 use Rattle.format.specs.Records.{countAt, nextAt}
+use Rattle.cube.specs.Whole.{wholeAt, wholesAt, wholeDifference}
 use Rattle.region.specs.Ahead.{aheadBy, ahead}
-use Rattle.algebra.specs.Whole.{wholeAt, wholesAt, wholeDifference}
 use Rattle.algebra.specs.Stops.{stopAt, basesOf}
 use Rattle.algebra.specs.Totals.{stepsBy, stops, gather, made, total}
 use Rattle.algebra.specs.declared.stop.Stop.{Stop}

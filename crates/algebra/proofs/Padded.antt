@@ -3,13 +3,12 @@
 --   whole-record       the difference of an accepted record
 --   tidy-padded, intersections-padded, subtractions-padded    what the operations make
 --   bytes-padded, long-padded    what is written, and whether a difference has too many cuts
-use Prim.Native.Nat.{ℕ, zero, suc, _+_, _-_, _*_, _≤_, _<_}
+use Prim.Native.Nat.{ℕ, suc, _+_, _-_, _*_}
 use native.Mathlib.Omega.{arith}
 use mathlib.Core.Path.{_≡_, refl, sym, ap, ap₂, _∙_}
 use mathlib.Core.List.{List, [], _∷_, _++_, map, append-nil}
 use mathlib.Core.Bool.{Bool, true, false, cond}
-use lib.ListN.{length, take, drop, length-append, length-drop, length-map, length-replicate}
-use lib.Seq.{length-take-le}
+use lib.ListN.{length, length-append, length-map, length-replicate}
 use Rattle.model.specs.Cube.{Cube, meet, shares}
 use Rattle.model.specs.Difference.{Difference, less, Region}
 use Rattle.model.specs.Sized.{All, Sized, Good}
@@ -17,46 +16,27 @@ use Rattle.model.specs.Tidy.{tidy, each, tidyRegion}
 use Rattle.model.specs.Algebra.{intersection, intersections, restored, subtraction, subtractions}
 use Rattle.model.specs.Padding.{pad, padDifference}
 use Rattle.model.proofs.Padding.{sized-lengths, tidy-pad, meet-pad, shares-pad}
-use Rattle.format.specs.Bytes.{cubeLen, codes, cubeFault, cubeBytes, writeCube, unused}
-use Rattle.format.specs.Records.{countAt, cubeAt, cubesAt, differenceAt, cubesBytes, differenceBytes, differencesBytes}
+use Rattle.format.specs.Bytes.{cubeLen, codes, cubeBytes, writeCube, unused}
+use Rattle.format.specs.Records.{countAt, differenceAt, cubesBytes, differenceBytes, differencesBytes}
 use Rattle.format.specs.Told.{anyLong}
-use Rattle.format.proofs.Coding.{read-padded, write-padded, write-bytes, codes-tell}
+use Rattle.format.proofs.Coding.{write-padded, write-bytes, codes-tell}
 use Rattle.format.proofs.Recording.{Record, each-cube}
-use Rattle.algebra.specs.Whole.{wholeAt, wholesAt, wholeDifference}
+use Rattle.cube.proofs.Wholes.{whole-padded, wholes-padded}
+use Rattle.cube.specs.Whole.{wholeDifference}
+use Rattle.cube.proofs.Spelling.{map-append}
 
--- accepted cubes
-whole-cube : (w : ℕ) (s : List ℕ) (at : ℕ) → at + cubeLen w ≤ length s → cubeFault w (take (cubeLen w) (drop at s)) ≡ 0
-    → wholeAt (cubeLen w) s at ≡ pad (unused w) (cubeAt w s at)
-unfolding wholeAt cubeAt
-whole-cube w s at h e = read-padded w (take (cubeLen w) (drop at s)) (length-take-le (cubeLen w) (drop at s) (simp length-drop (omega arith))) e
-
-whole-cubes : (w : ℕ) (s : List ℕ) (at n : ℕ) → at + n * cubeLen w ≤ length s
-    → ((i : ℕ) → i < n → cubeFault w (take (cubeLen w) (drop (at + i * cubeLen w) s)) ≡ 0)
-    → wholesAt (cubeLen w) s at n ≡ map (pad (unused w)) (cubesAt w s at n)
-unfolding wholesAt cubesAt
-whole-cubes w s at zero h e = refl
-whole-cubes w s at (suc n) h e =
-    let z : at + 0 * cubeLen w ≡ at = omega arith in
-    rw (whole-cube w s at (omega arith) (rw z at (e 0 (omega arith))))
-    (ap (λ (l : List Cube). pad (unused w) (cubeAt w s at) ∷ l)
-    (whole-cubes w s (at + cubeLen w) n (omega arith)
-    (λ i l. let y : at + suc i * cubeLen w ≡ at + cubeLen w + i * cubeLen w = omega arith in rw y at (e (suc i) (omega arith)))))
-
+-- accepted records
 pub whole-record : {alone : Bool} {w n : ℕ} {s : List ℕ} {at : ℕ} → Record alone w n s at
     → wholeDifference (cubeLen w) s at ≡ padDifference (unused w) (differenceAt w s at)
 whole-record {w = w} {s = s} {at = at} r =
     let q = cubeLen w in
     let z : at + 5 + 0 * q ≡ at + 5 = omega arith in
-    let b = whole-cube w s (at + 5) (omega arith) (rw z at (each-cube r 0 (omega arith))) in
-    let c = whole-cubes w s (at + 5 + q) (countAt s at) (omega arith)
+    let b = whole-padded w s (at + 5) (omega arith) (rw z at (each-cube r 0 (omega arith))) in
+    let c = wholes-padded w s (at + 5 + q) (countAt s at) (omega arith)
     (λ i l. let y : at + 5 + suc i * q ≡ at + 5 + q + i * q = omega arith in rw y at (each-cube r (suc i) (omega arith))) in
     λ i. less (b i) (c i)
 
 -- what the operations make
-map-append : {A B : Type 0} (f : A → B) (r s : List A) → map f (r ++ s) ≡ map f r ++ map f s
-map-append f [] s = refl
-map-append f (x ∷ r) s = ap (λ (l : List _). f x ∷ l) (map-append f r s)
-
 -- P pads a difference; f and g make the same of it
 module _ (w u : ℕ) where
   each-padded : (f g : Difference → Region) → ((d : Difference) → Good w d → f (padDifference u d) ≡ map (padDifference u) (g d)) → (r : Region) → All (Good w) r

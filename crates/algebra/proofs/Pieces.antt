@@ -5,7 +5,7 @@ use native.Mathlib.Omega.{arith}
 use mathlib.Core.Path.{_≡_, sym, ap, _∙_}
 use mathlib.Core.List.{List, [], _∷_, _++_, append-nil}
 use mathlib.Core.Bool.{true, false}
-use lib.ListN.{length, take, drop, length-take, length-drop}
+use lib.ListN.{length, take, drop}
 use lib.Seq.{take-at}
 use Rattle.model.specs.Cube.{shares}
 use Rattle.model.specs.Tidy.{tidyFrom, tidyRegion}
@@ -16,7 +16,8 @@ use Rattle.format.specs.Told.{over}
 use Rattle.cube.specs.Pair.{andBytes, andInto}
 use Rattle.cube.proofs.Codes.{codes-and, length-and}
 use Rattle.cube.proofs.Pairs.{into-over}
-use Rattle.algebra.specs.Whole.{wholeAt, wholesAt}
+use Rattle.cube.proofs.Wholes.{whole-part, part-length}
+use Rattle.cube.specs.Whole.{cubeOf, wholeAt, wholesAt}
 use Rattle.algebra.specs.Lay.{laid}
 use Rattle.algebra.specs.Tidied.{onward, held, Taken}
 use Rattle.algebra.specs.Stops.{basesOf, piecesOf, Holds}
@@ -24,23 +25,20 @@ use Rattle.algebra.specs.declared.tidying.Made.{Made}
 use Rattle.algebra.specs.declared.tidying.Made.the-variants.{Omitted, Kept}
 use Rattle.algebra.specs.declared.stop.Stop.{Stop}
 use Rattle.algebra.proofs.Laying.{here-laid, back-laid}
-use Rattle.algebra.proofs.Wholes.{whole-part, wholes-back}
+use Rattle.algebra.proofs.Wholes.{wholes-back}
 use Rattle.algebra.proofs.Taking.{kept-most}
 
 -- the part of q bytes that is lent from an offset on
-part-length : (q at : ℕ) (s : List ℕ) → at + q ≤ length s → length (take (at + q - at) (drop at s)) ≡ q
-part-length q at s h = simp (length-take, length-drop) (omega arith)
-
 module _ (q : ℕ) (s : List ℕ) (a : ℕ) (t : List ℕ) (p : Stop) (old new : List ℕ) (own : a + 5 + q ≤ length s) (room : q ≤ length old) where
   -- bytes laid over the front of the buffer
   front : (bytes : List ℕ) → length bytes ≡ q → new ≡ over old bytes → wholeAt q new 0 ≡ codes bytes
-  unfolding wholeAt
+  unfolding wholeAt cubeOf
   front bytes l e = rw e (ap codes (take-at bytes (drop (length bytes) old) q l))
 
   pub base-own : p .meets ≡ false → new ≡ over old (take (a + 5 + q - (a + 5)) (drop (a + 5) s)) → wholeAt q new 0 ∷ [] ≡ basesOf q s a t p
   unfolding basesOf
   base-own m e =
-      rw (m, front (take (a + 5 + q - (a + 5)) (drop (a + 5) s)) (part-length q (a + 5) s own) e, whole-part q s (a + 5))
+      rw (m, front (take (a + 5 + q - (a + 5)) (drop (a + 5) s)) (sym (part-length q s (a + 5) own)) e, whole-part q s (a + 5))
 
   module _ (m : p .meets ≡ true) (cube : p .cube + q ≤ length t) where
     pub base-none : false ≡ shares (codes (take (a + 5 + q - (a + 5)) (drop (a + 5) s))) (codes (take (p .cube + q - p .cube) (drop (p .cube) t)))
@@ -55,8 +53,8 @@ module _ (q : ℕ) (s : List ℕ) (a : ℕ) (t : List ℕ) (p : Stop) (old new :
     base-met e n =
         let x = take (a + 5 + q - (a + 5)) (drop (a + 5) s) in
         let y = take (p .cube + q - p .cube) (drop (p .cube) t) in
-        let lx = part-length q (a + 5) s own in
-        let ly = part-length q (p .cube) t cube in
+        let lx = sym (part-length q s (a + 5) own) in
+        let ly = sym (part-length q t (p .cube) cube) in
         let l : length x ≡ length y = lx ∙ sym ly in
         let f = front (andBytes x y) (length-and x y l ∙ lx) (n ∙ into-over x y old l (rw lx room)) ∙ codes-and x y l in
         rw (m, ← rw (whole-part q s (a + 5), whole-part q t (p .cube)) at e, rw (whole-part q s (a + 5), whole-part q t (p .cube)) at f)
@@ -89,7 +87,7 @@ module _ (q : ℕ) (s : List ℕ) (a : ℕ) (t : List ℕ) (p : Stop) (base : Li
     piece-covered f = record { tidied = sym (rw f at both); few = omega arith }
 
     pub piece-kept : (i : ℕ) → m2 ≡ Kept i → n ≤ mostCuts → p .cuts ≤ mostCuts → (new : List ℕ) → 5 + q ≤ length back → new ≡ laid back 5 base → Holds q s a t p new (Kept i)
-    unfolding held onward wholeAt tidyFrom
+    unfolding held onward wholeAt cubeOf tidyFrom
     piece-kept i f h k new room put =
         let b : take q (drop 5 new) ≡ base = rw put (here-laid back base 5 (omega arith) q l) in
         let c : wholesAt q new (5 + q) i ≡ wholesAt (length base) back (5 + length base) i =

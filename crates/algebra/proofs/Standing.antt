@@ -25,9 +25,10 @@ use Rattle.format.specs.Files.{regionOf, regionIn}
 use Rattle.format.specs.Told.{writingRegion}
 use Rattle.format.proofs.Recording.{Record, good-read}
 use Rattle.format.proofs.Filing.{Listed, ended, listed, File, file-good}
+use Rattle.cube.specs.Whole.{wholeDifference}
 use Rattle.region.specs.Ahead.{ahead}
 use Rattle.region.proofs.Onward.{ahead-end, ahead-next, file-ahead}
-use Rattle.algebra.specs.Whole.{wholeDifference, Fits}
+use Rattle.algebra.specs.Whole.{Fits}
 use Rattle.algebra.specs.Stops.{Stands, stopAt}
 use Rattle.algebra.specs.Totals.{stops, total, Stand}
 use Rattle.algebra.specs.Results.{wholeRows}

@@ -12,7 +12,7 @@ use Rattle.model.specs.Cube.{Cube, meet, shares, same}
 use Rattle.model.specs.Tidy.{among, tidyFrom}
 use Rattle.format.specs.Bytes.{codes}
 use Rattle.cube.specs.Pair.{andBytes}
-use Rattle.algebra.specs.Whole.{wholeAt, wholesAt}
+use Rattle.cube.specs.Whole.{cubeOf, wholeAt, wholesAt}
 use Rattle.algebra.specs.Lay.{laid}
 use Rattle.algebra.specs.Tidied.{keptIn, onward, most, Taken}
 use Rattle.algebra.specs.declared.tidying.Made.{Made}
@@ -39,7 +39,7 @@ module _ (base s old : List ℕ) (at k : ℕ) where
 
     here : wholeAt (length base) new (slot base k) ≡ meet (codes base) (wholeAt (length base) s at)
     here =
-        unfold wholeAt in
+        unfold wholeAt cubeOf in
         rw put (ap codes (here-laid old (andBytes base (take (length base) (drop at s))) (slot base k) (omega (arith, size)) (length base) size) ∙ met-codes base s at fits)
 
     still : keptIn base new k ≡ keptIn base old k

@@ -1,5 +1,4 @@
 -- Cubes of whole bytes in a row. Assumes nothing.
---   whole-part               the cube of a part that is lent
 --   row-room                 a row of n cubes is the first of them and the others
 --   cubes-few                the cubes of a record take at most 5,200 bytes
 --   wholes-turn, wholes-none the first of a row, and the row with none
@@ -17,11 +16,7 @@ use lib.Seq.{take-take, drop-drop}
 use Rattle.model.specs.Cube.{Cube, same}
 use Rattle.model.specs.Tidy.{among}
 use Rattle.format.specs.Bytes.{codes}
-use Rattle.algebra.specs.Whole.{wholeAt, wholesAt}
-
-pub whole-part : (q : ℕ) (s : List ℕ) (at : ℕ) → codes (take (at + q - at) (drop at s)) ≡ wholeAt q s at
-unfolding wholeAt
-whole-part q s at = let e : at + q - at ≡ q = omega arith in rw e
+use Rattle.cube.specs.Whole.{cubeOf, wholeAt, wholesAt}
 
 pub row-room : (n q : ℕ) → 0 < n → n * q ≡ q + (n - 1) * q
 row-room zero q h = absurd (omega arith)
@@ -55,7 +50,7 @@ take-part q (suc at) (suc m) [] h = refl
 take-part q (suc at) (suc m) (x ∷ s) h = take-part q at m s (omega arith)
 
 whole-front : (q at m : ℕ) (s t : List ℕ) → at + q ≤ m → take m s ≡ take m t → wholeAt q s at ≡ wholeAt q t at
-unfolding wholeAt
+unfolding wholeAt cubeOf
 whole-front q at m s t h e =
     ap codes (sym (take-part q at m s h) ∙ ap (λ (l : List ℕ). take q (drop at l)) e ∙ take-part q at m t h)
 
@@ -66,7 +61,7 @@ wholes-front q m s t at (suc n) h e = rw (whole-front q at m s t (omega arith) e
 
 -- buffers that are the same from an offset on hold the same cubes behind it
 pub wholes-back : (q : ℕ) (s t : List ℕ) (at n : ℕ) → drop at s ≡ drop at t → wholesAt q s at n ≡ wholesAt q t at n
-unfolding wholesAt wholeAt
+unfolding wholesAt wholeAt cubeOf
 wholes-back q s t at zero e = refl
 wholes-back q s t at (suc n) e =
     let f : drop (at + q) s ≡ drop (at + q) t = sym (drop-drop q at s) ∙ ap (drop q) e ∙ drop-drop q at t in

@@ -15,7 +15,7 @@ use Rattle.format.specs.Bytes.{Bytes, cubeLen, codes, cubeBytes, writeCube}
 use Rattle.format.specs.Records.{cubesBytes, differenceBytes}
 use Rattle.format.specs.Told.{over}
 use Rattle.format.proofs.Coding.{length-codes, write-padded, write-bytes, codes-tell}
-use Rattle.algebra.specs.Whole.{wholeAt, wholesAt}
+use Rattle.cube.specs.Whole.{cubeOf, wholeAt, wholesAt}
 use Rattle.algebra.specs.Lay.{frontBytes}
 
 pub all-bytes : (s : List ℕ) → ((i : ℕ) → getD s i 0 < 256) → Bytes s
@@ -50,7 +50,7 @@ write-codes b h =
     (write-padded (length b) (codes b) (omega (arith, length-codes b)) ∙ rw e (append-nil (codes b))))
 
 row-bytes : (q : ℕ) (s : List ℕ) (at n : ℕ) → Bytes s → cubesBytes (wholesAt q s at n) ≡ take (n * q) (drop at s)
-unfolding wholesAt wholeAt
+unfolding wholesAt wholeAt cubeOf
 row-bytes q s at zero h = let e : 0 * q ≡ 0 = omega arith in rw e
 row-bytes q s at (suc n) h =
     let e : suc n * q ≡ q + n * q = omega arith in

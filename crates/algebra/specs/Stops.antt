@@ -19,7 +19,8 @@ use Rattle.model.specs.Difference.{less, Region}
 use Rattle.model.specs.Tidy.{tidyRegion}
 use Rattle.format.specs.Limits.{mostCuts}
 use Rattle.format.specs.Records.{countAt, nextAt}
-use Rattle.algebra.specs.Whole.{wholeAt, wholesAt, Fits}
+use Rattle.cube.specs.Whole.{wholeAt, wholesAt}
+use Rattle.algebra.specs.Whole.{Fits}
 use Rattle.algebra.specs.Tidied.{held, most}
 use Rattle.algebra.specs.declared.tidying.Made.{Made}
 use Rattle.algebra.specs.declared.stop.Stop.{Stop}

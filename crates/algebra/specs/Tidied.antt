@@ -13,7 +13,7 @@ use Rattle.model.specs.Cube.{Cube}
 use Rattle.model.specs.Difference.{less, Region}
 use Rattle.model.specs.Tidy.{tidyFrom}
 use Rattle.format.specs.Bytes.{codes}
-use Rattle.algebra.specs.Whole.{wholeAt, wholesAt}
+use Rattle.cube.specs.Whole.{wholeAt, wholesAt}
 use Rattle.algebra.specs.declared.tidying.Made.{Made}
 use Rattle.algebra.specs.declared.tidying.Made.the-variants.{Omitted, Kept}
 

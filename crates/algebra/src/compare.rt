@@ -5,7 +5,7 @@ ghost use lib.ListN.{length};
 ghost use Rattle.model.specs.Cube.{same};
 ghost use Rattle.model.specs.Tidy.{among};
 ghost use Rattle.format.specs.Bytes.{codes};
-ghost use Rattle.algebra.specs.Whole.{wholeAt, wholesAt};
+ghost use Rattle.cube.specs.Whole.{wholeAt, wholesAt};
 
 // Whether two cubes are the same: looking stops at the first byte that differs.
 pub(crate) fn equal(a: &[u8], b: &[u8]) -> bool

@@ -4,13 +4,14 @@ ghost use mathlib.Core.List.{[], _∷_};
 ghost use mathlib.Core.Bool.{true, cond};
 ghost use Prim.Native.Nat.{_+_, _≤_};
 ghost use lib.ListN.{length};
-ghost use Rattle.algebra.specs.Whole.{wholeAt, Fits};
+ghost use Rattle.algebra.specs.Whole.{Fits};
 ghost use Rattle.algebra.specs.Stops.{basesOf, Room, Holds};
 use super::put::put;
 use super::put::put_at;
 use super::stop::Stop;
 use super::tidying::Made;
 use super::tidying::take_cuts;
+ghost use Rattle.cube.specs.Whole.{wholeAt};
 
 // Puts the base of a piece over the front of a buffer; where it shares no header with the stop's cube there is no piece.
 fn put_base(q: usize, s: &[u8], a: usize, t: &[u8], stop: Stop, base: &mut [u8]) -> bool

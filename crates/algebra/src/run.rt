@@ -5,7 +5,7 @@ ghost use Prim.Native.Nat.{_+_, _*_, _≤_};
 ghost use lib.ListN.{length};
 ghost use Rattle.model.specs.Difference.{less};
 ghost use Rattle.format.specs.Records.{differenceBytes};
-ghost use Rattle.algebra.specs.Whole.{wholeAt, wholesAt};
+ghost use Rattle.cube.specs.Whole.{wholeAt, wholesAt};
 ghost use Rattle.algebra.specs.Lay.{laid};
 ghost use Rattle.algebra.specs.Tidied.{held, most};
 ghost use Rattle.algebra.specs.Totals.{total, Stand, Counted, Adds};

@@ -4,7 +4,7 @@ ghost use mathlib.Core.List.{[], _∷_};
 ghost use Prim.Native.Nat.{_+_, _*_, _≤_, _<_};
 ghost use lib.ListN.{length};
 ghost use Rattle.format.specs.Bytes.{codes};
-ghost use Rattle.algebra.specs.Whole.{wholeAt, wholesAt};
+ghost use Rattle.cube.specs.Whole.{wholeAt, wholesAt};
 ghost use Rattle.algebra.specs.Tidied.{Taken};
 use super::compare::equal;
 use super::compare::one_of;

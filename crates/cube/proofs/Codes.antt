@@ -37,7 +37,7 @@ below4 P p0 p1 p2 p3 (suc (suc (suc zero))) h = p3
 below4 P p0 p1 p2 p3 (suc (suc (suc (suc n)))) h = absurd (omega arith)
 
 -- the meet
-four-and : (m n : ℕ) → m < 4 → n < 4 → codeOf (bitAnd m n) ≡ meetCode (codeOf m) (codeOf n)
+pub four-and : (m n : ℕ) → m < 4 → n < 4 → codeOf (bitAnd m n) ≡ meetCode (codeOf m) (codeOf n)
 four-and m n hm hn =
     below4 (λ (k : ℕ). codeOf (bitAnd k n) ≡ meetCode (codeOf k) (codeOf n))
     (below4 (λ (k : ℕ). codeOf (bitAnd 0 k) ≡ meetCode none (codeOf k)) refl refl refl refl n hn)

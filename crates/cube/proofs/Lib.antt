@@ -12,3 +12,4 @@ pub mod Member
 pub mod Reading
 pub mod Refusals
 pub mod Calling
+pub mod Wholes

@@ -20,7 +20,7 @@ use Rattle.cube.specs.Header.{spelledCube}
 use Rattle.cube.proofs.Pairs.{lies-within}
 use Rattle.cube.proofs.Spelling.{map-append, within-holds}
 
-codes-take : (n : ℕ) (bs : List ℕ) → codes (take n bs) ≡ take (4 * n) (codes bs)
+pub codes-take : (n : ℕ) (bs : List ℕ) → codes (take n bs) ≡ take (4 * n) (codes bs)
 codes-take zero bs = refl
 codes-take (suc n) [] = let e : 4 * suc n ≡ suc (4 * n + 3) = omega arith in rw e
 codes-take (suc n) (b ∷ bs) =

@@ -1,4 +1,4 @@
--- How many positions a cube leaves free.
+-- How many positions a cube leaves free. "The work keeps two byte tables of 256 numbers each: the codes 3 in a byte, and whether it holds a code 0."
 --   freeCount c    == the number of codes `free` in c
 -- Assumes nothing: these are definitions.
 use Prim.Native.Nat.{ℕ, suc}

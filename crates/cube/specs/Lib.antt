@@ -2,3 +2,4 @@ pub mod Count
 pub mod Pair
 pub mod Header
 pub mod Call
+pub mod Whole

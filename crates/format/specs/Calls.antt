@@ -41,6 +41,9 @@ use Rattle.format.specs.Records.{countAt, nextAt, widthOf, widthFault, d
 use Rattle.format.specs.Files.{readFile, faultNumber, faultOffset, offsets, regionIn}
 use Rattle.format.specs.Told.{Told, silent, wide, lentCube, lentRecord, lentFile, lentBits, lentHeader, yesOr, writing, writingRegion, walking}
 
+-- "Membership, emptiness and intersection take differences or regions; a difference or a region may have a difference taken from it; inclusion compares two
+-- differences. Intersection takes two of one sort." .. "In "a less b" and "a in b", a is operand 1."
+
 -- cubes
 
 -- "Two lent cubes that share a header meet in the cube written; if they share none the answer is 2 and nothing is written."
@@ -86,7 +89,7 @@ wider-number w a b =
     (lentCube w b 2
     (yesOr (within (readCube w b) (readCube w a) || within (readCube w a) (readCube w b))))))
 
--- membership
+-- membership; "The packet broker's C host asks membership and emptiness on plain numbers and byte buffers": of a region, by region-member and region-empty
 
 unfoldable pub diff-member : ℕ → List ℕ → List ℕ → Told
 diff-member w s h =
@@ -159,6 +162,7 @@ region-empty s n room =
     (lentFile s 1
     (walking (widthOf s) n room (walkRegion (regionIn s))))
 
+-- "It keeps no result, so a 65th cut is no refusal there."
 unfoldable pub diff-in : ℕ → List ℕ → List ℕ → ℕ → ℕ → Told
 diff-in w s t n room =
     outcome
@@ -167,7 +171,7 @@ diff-in w s t n room =
     (lentRecord w t 2
     (walking w n room (walkInclusion (differenceAt w s 0) (differenceAt w t 0))))))
 
--- "0: written, or the ceiling, which is then the count"
+-- "The ceiling of demand 3 can be asked for one difference"; "0: written, or the ceiling, which is then the count"
 unfoldable pub ceiling-of : ℕ → List ℕ → Told
 ceiling-of w s =
     outcome
@@ -235,7 +239,7 @@ abbrev pub startOf : ℕ → ℕ
 startOf place = cond (eqb place 0) 6 place
 
 -- "gives one difference after another: 1 with the record's offset, 2 with offset 0 after the last. A refused record gives its number and offset, and the
--- place stays, as it does after 2." .. "W is kind 1's, read first in each step and refused at 0. Records are not counted, so 19 is not given."
+-- place stays, as it does after 2." .. "the file's end is 2, beyond it 15. W is kind 1's, read first in each step and refused at 0. Records are not counted, so 19 is not given."
 unfoldable pub read-on : List ℕ → ℕ → Step
 read-on s place =
     let at = startOf place in

@@ -43,7 +43,8 @@ differencesFrom (suc t) w s at n =
     let here = cond (eqb f 0) rest (refused f at) in
     cond (leb (length s) at) (whole []) here
 
--- "A region file is one kind 1 and then kind 2 records to its end." A record is not empty, so a file has no more records than bytes.
+-- "A region file is one kind 1 and then kind 2 records to its end." .. "An empty file is 15 at 0." A record is not empty, so a file has no more records
+-- than bytes.
 unfoldable pub readFile : List ℕ → Reading
 readFile s =
     let rest = differencesFrom (length s) (widthOf s) s 6 0 in

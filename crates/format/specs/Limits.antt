@@ -7,15 +7,19 @@
 -- Assumes nothing: these are definitions.
 use Prim.Native.Nat.{ℕ}
 
+-- "A header is W bits, W from 1 to 320 (an IPv6 header is 320)."
 abbrev pub widest : ℕ
 widest = 320
 
+-- "A difference is one base cube and 0 to 64 cuts."
 abbrev pub mostCuts : ℕ
 mostCuts = 64
 
+-- "A region is 0 to 256 differences."
 abbrev pub mostDifferences : ℕ
 mostDifferences = 256
 
+-- "the program's input is above 65,536 bytes"
 abbrev pub mostInput : ℕ
 mostInput = 65536
 

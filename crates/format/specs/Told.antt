@@ -99,6 +99,7 @@ writingRegion w r room =
     (row (below mostDifferences (length r)) (silent (said 19))
     (writing (fileBytes w r) room))
 
+-- "Every refusal, and answers 1 and 3, write nothing. Answer 2 to emptiness or inclusion writes one header."
 abbrev pub deciding : ℕ → Decision → Told
 deciding w (undecided n) = silent (counted 3 n)
 deciding w (empty n) = silent (counted 1 n)

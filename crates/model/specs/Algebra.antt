@@ -33,5 +33,6 @@ restored a (c ∷ cs) =
 abbrev pub subtraction : Difference → Difference → Region
 subtraction a b = less (a .base) (a .cuts ++ (b .base ∷ [])) ∷ restored a (b .cuts)
 
+-- "A region less a difference does so for each in order."
 abbrev pub subtractions : Region → Difference → Region
 subtractions r b = each (λ a. subtraction a b) r

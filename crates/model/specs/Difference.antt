@@ -10,6 +10,7 @@ use mathlib.Core.List.{List, [], _∷_}
 use mathlib.Core.Bool.{Bool, false, not, _&&_, _||_}
 use Rattle.model.specs.Cube.{Header, Cube, holds}
 
+-- "A difference is one base cube and 0 to 64 cuts."; the limits are of the bytes, and not of the sets
 pub record Difference : Type 0 where
   pub base : Cube
   pub cuts : List Cube
@@ -17,6 +18,7 @@ pub record Difference : Type 0 where
 abbrev pub less : Cube → List Cube → Difference
 less b cs = record { base = b; cuts = cs }
 
+-- "A region is 0 to 256 differences."
 abbrev pub Region : Type 0
 Region = List Difference
 

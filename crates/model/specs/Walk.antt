@@ -72,7 +72,8 @@ abbrev pub counted : Found → Found
 counted v = record { pieces = 1 + v .pieces; survivor = v .survivor }
 
 -- "To visit a piece with cuts left: count one. With no cuts left, the piece survives .. Otherwise look at the next cut. If it shares no header with the
--- piece, pass to the next cut, same visit. .. with the cuts after. No such position means the piece is covered."
+-- piece, pass to the next cut, same visit. .. with the cuts after. No such position means the piece is covered." .. "The walk calls itself on the
+-- narrower piece with fewer cuts left."
 unfoldable pub visit : List Cube → Cube → Found
 visit [] p = record { pieces = 1; survivor = piece p }
 visit (c ∷ cs) p =
@@ -84,7 +85,7 @@ visit (c ∷ cs) p =
 abbrev pub walk : Difference → Found
 walk d = visit (d .cuts) (d .base)
 
--- "A region is walked difference by difference"
+-- "A region is walked difference by difference on one allowance, stopping at a member; an empty region is yes with count 0."
 abbrev pub walkRegion : Region → Found
 walkRegion r = inTurn walk r
 
@@ -106,6 +107,6 @@ abbrev pub decided : ℕ → Survivor → Decision
 decided n nothing = empty n
 decided n (piece p) = member n p
 
--- "Undecided reports the allowance as its count."
+-- "Undecided reports the allowance as its count. With 0 every difference is undecided, count 0."
 unfoldable pub decide : ℕ → Found → Decision
 decide n v = cond (leb (v .pieces) n) (decided (v .pieces) (v .survivor)) (undecided n)

@@ -9,7 +9,7 @@ use native.Mathlib.Nat.{mod-mod, mul-add-mod-self-right, suc-mul, mul-le-mul-rig
 use native.Mathlib.Omega.{arith}
 use mathlib.Core.Path.{_≡_, refl, sym, ap, _∙_}
 use mathlib.Core.Logic.{⊎-elim}
-use mathlib.Core.List.{List, [], _∷_, _++_}
+use mathlib.Core.List.{List, []}
 use lib.ListN.{length, getD, set, take, replicate, length-append, length-replicate, getD-replicate, List·getD-append}
 use lib.Seq.{getD-set-same, getD-set-other, length-take-le, getD-take, getD-append-add}
 use lib.Bits.{bitAnd, and-mask}
@@ -17,12 +17,12 @@ use lib.Pow.{pow-add, high, shr-shr}
 use Rattle.model.specs.Padding.{pad}
 use Rattle.format.specs.Bytes.{codeOf, codes}
 use Rattle.format.proofs.Coding.{length-codes, code-at, codes-free}
-use Rattle.visits.specs.Cuts.{cubeOf, cutAt}
 use Rattle.visits.specs.Words.{placeAt, numberIn, wide, row}
 use Rattle.visits.specs.Loading.{padded, Holds, Loaded}
 use Rattle.visits.proofs.Digits.{same-or-not, below-or, same-low, threes-at}
 use Rattle.visits.proofs.Wide.{wide-ext}
-use Rattle.cube.proofs.Codes.{below4}
+use Rattle.cube.proofs.Codes.{below4, codes-append}
+use Rattle.cube.specs.Whole.{cubeOf, wholeAt}
 
 pub padded-inside : (q : ℕ) (bs : List ℕ) (b : ℕ) → q ≤ length bs → b < q → getD (padded q bs) b 0 ≡ getD bs b 0
 unfolding padded
@@ -38,10 +38,6 @@ padded-behind q bs b l h k =
 pub padded-long : (q : ℕ) (bs : List ℕ) → q ≤ length bs → q ≤ 80 → length (padded q bs) ≡ 80
 unfolding padded
 padded-long q bs l h = length-append (take q bs) (replicate (80 - q) 255) ∙ rw (length-take-le q bs l, length-replicate {A = ℕ} (80 - q) 255) (omega arith)
-
-codes-append : (xs ys : List ℕ) → codes (xs ++ ys) ≡ codes xs ++ codes ys
-codes-append [] ys = refl
-codes-append (x ∷ xs) ys = rw (codes-append xs ys)
 
 pub padded-codes : (q : ℕ) (bs : List ℕ) → codes (padded q bs) ≡ pad (320 - 4 * q) (cubeOf q bs)
 unfolding padded cubeOf
@@ -126,7 +122,7 @@ word-more P ws w x l h f v i =
     ⊎-elim (λ (e : v ≡ w). rw (e, getD-set-same ws w x 0 l) h) (λ (e : v ≡ w → ⊥). rw (getD-set-other ws w v x 0 e) (f v (omega arith))) (same-or-not v w)
 
 pub row-more : (q : ℕ) (s : List ℕ) (at n : ℕ) (cuts : List (List ℕ)) (m here : ℕ) (ws : List ℕ) → m < length cuts → here ≡ at + (n - 1 - m) * q
-    → wide ws ≡ pad (320 - 4 * q) (cutAt q s here) → Loaded q s at n cuts m → Loaded q s at n (set cuts m ws) (m + 1)
+    → wide ws ≡ pad (320 - 4 * q) (wholeAt q s here) → Loaded q s at n cuts m → Loaded q s at n (set cuts m ws) (m + 1)
 unfolding row
 row-more q s at n cuts m here ws l eh e f k i =
     ⊎-elim (λ (d : k ≡ m). rw (d, getD-set-same cuts m ws [] l) (rw eh at e)) (λ (d : k ≡ m → ⊥). rw (getD-set-other cuts m k ws [] d) (f k (omega arith))) (same-or-not k m)

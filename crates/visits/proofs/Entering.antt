@@ -16,7 +16,7 @@ use lib.Seq.{getD-set-same, getD-set-other}
 use Rattle.model.specs.Cube.{Code, none, v0, v1, free, Cube, shares}
 use Rattle.model.specs.Walk.{opens}
 use Rattle.format.specs.Bytes.{codeOf, codes}
-use Rattle.visits.specs.Cuts.{cubeOf, cutAt}
+use Rattle.cube.specs.Whole.{cubeOf, wholeAt}
 use Rattle.visits.specs.Opening.{bit, firstOpen}
 use Rattle.visits.specs.Words.{numberIn, wide, row}
 use Rattle.visits.specs.Alive.{digit, clash, Against}
@@ -162,7 +162,7 @@ met-more q s at n p m x y b ey eb e =
     )
 
 pub part-row : (q : ℕ) (s : List ℕ) (at n m here len : ℕ) → Down at n m q here len → codes (take (here - (here - q)) (drop (here - q) s)) ≡ rowOf q s at n m
-unfolding cutAt cubeOf
+unfolding wholeAt cubeOf
 part-row q s at n m here len d =
     let e : here - (here - q) ≡ q = omega (arith, d .there) in
     rw (e, d .row)

@@ -1,5 +1,5 @@
 -- The codes of bytes, by position. Assumes nothing.
---   codes-take, codes-drop   the codes of the first bytes, and of those after them
+--   codes-drop               the codes of the bytes after the first
 --   given                    a byte with the code v at a place that is free
 --   piece-given              in a piece, that is the code v at the position
 use Prim.Native.Nat.{ℕ, zero, suc, _-_, _*_, _/_, _%_, _^_, _≤_, _<_}
@@ -8,19 +8,16 @@ use native.Mathlib.Omega.{arith}
 use mathlib.Core.Path.{_≡_, refl, sym, ap, _∙_}
 use mathlib.Core.List.{List, [], _∷_}
 use lib.Dec.{lit<}
-use lib.ListN.{length, getD, set, take, drop, length-set}
+use lib.ListN.{length, getD, set, drop, length-set}
 use lib.Seq.{take-set-lt}
 use lib.Bits.{bitAnd, and-mask}
 use Rattle.model.specs.Cube.{none, free, Cube}
 use Rattle.format.specs.Bytes.{codeOf, codes}
 use Rattle.format.proofs.Coding.{code-at, four-codes}
-use Rattle.visits.specs.Cuts.{cubeOf, Given}
+use Rattle.visits.specs.Cuts.{Given}
 use Rattle.cube.proofs.Codes.{below4}
-
-pub codes-take : (q : ℕ) (bs : List ℕ) → codes (take q bs) ≡ take (4 * q) (codes bs)
-codes-take zero bs = refl
-codes-take (suc q) [] = let e : 4 * suc q ≡ suc (suc (suc (suc (4 * q)))) = omega arith in rw e
-codes-take (suc q) (b ∷ bs) = let e : 4 * suc q ≡ suc (suc (suc (suc (4 * q)))) = omega arith in rw (e, codes-take q bs)
+use Rattle.cube.specs.Whole.{cubeOf}
+use Rattle.cube.proofs.Member.{codes-take}
 
 pub codes-drop : (q : ℕ) (bs : List ℕ) → codes (drop q bs) ≡ drop (4 * q) (codes bs)
 codes-drop zero bs = refl

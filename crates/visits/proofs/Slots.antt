@@ -1,5 +1,5 @@
 -- Walks that are remembered. Assumes nothing.
---   code-and, code-or     the codes of `&` and `|`
+--   code-or               the codes of `|`
 --   alike-below           pieces that meet the same cuts, and are alike where one of those fixes a value, are alike
 --   fits-words            a piece in words fits a slot
 --   remembers-right       a slot that is made of a walk in which nothing survives
@@ -32,7 +32,7 @@ use Rattle.visits.specs.Memory.{Finds, Fits, Remembers, Memory, Recalls,
 use Rattle.visits.proofs.Digits.{same-or-not, below-or, or-none, xor-none, place-and, place-or, digit-below}
 use Rattle.visits.proofs.Wide.{wide-length, wide-at, row-length}
 use Rattle.visits.proofs.Meeting.{alive-passed, pow-double}
-use Rattle.cube.proofs.Codes.{below4}
+use Rattle.cube.proofs.Codes.{below4, four-and}
 
 pub code-or : (a b : ℕ) → a < 4 → b < 4 → codeOf (bitOr a b) ≡ eitherCode (codeOf a) (codeOf b)
 code-or a b h k =
@@ -40,13 +40,6 @@ code-or a b h k =
     (below4 (λ (b : ℕ). codeOf (bitOr 1 b) ≡ eitherCode v0 (codeOf b)) refl refl refl refl b k)
     (below4 (λ (b : ℕ). codeOf (bitOr 2 b) ≡ eitherCode v1 (codeOf b)) refl refl refl refl b k)
     (below4 (λ (b : ℕ). codeOf (bitOr 3 b) ≡ eitherCode free (codeOf b)) refl refl refl refl b k) a h
-
-pub code-and : (a b : ℕ) → a < 4 → b < 4 → codeOf (bitAnd a b) ≡ meetCode (codeOf a) (codeOf b)
-code-and a b h k =
-    below4 (λ (a : ℕ). codeOf (bitAnd a b) ≡ meetCode (codeOf a) (codeOf b)) refl
-    (below4 (λ (b : ℕ). codeOf (bitAnd 1 b) ≡ meetCode v0 (codeOf b)) refl refl refl refl b k)
-    (below4 (λ (b : ℕ). codeOf (bitAnd 2 b) ≡ meetCode v1 (codeOf b)) refl refl refl refl b k)
-    (below4 (λ (b : ℕ). codeOf (bitAnd 3 b) ≡ meetCode free (codeOf b)) refl refl refl refl b k) a h
 
 -- the code x of a piece is free or the cut's value y, and n lies in y: then whether x is free is seen in what x or n admits
 open-either : (x y n : Code) → coded (meetCode x y) ≡ true → meetCode n y ≡ n → opens x y ≡ isFixed y && isFree (eitherCode x n)
@@ -287,7 +280,7 @@ module _ (m m′ b : List ℕ) (e : (w : ℕ) → w < 10 → getD m′ w 0 ≡ b
   unfolding numberIn
   met-code i h =
       rw (e (i / 32) (omega arith), place-and (i % 32) (getD m (i / 32) 0) (getD b (i / 32) 0))
-      (code-and (placeAt (getD m (i / 32) 0) (i % 32)) (placeAt (getD b (i / 32) 0) (i % 32)) (mod-lt _ (lit< tt)) (mod-lt _ (lit< tt)))
+      (four-and (placeAt (getD m (i / 32) 0) (i % 32)) (placeAt (getD b (i / 32) 0) (i % 32)) (mod-lt _ (lit< tt)) (mod-lt _ (lit< tt)))
 
   lies-more : (c : Cube) → Lies m c → Lies m′ c
   lies-more c l i h = rw (met-code i h) (meet-swap (codeIn m i) (codeIn b i) (getD c i none) ∙ rw (l i h))

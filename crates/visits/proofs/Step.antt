@@ -15,9 +15,10 @@ use Rattle.model.specs.Cube.{Code, none, v0, v1, free}
 use Rattle.model.specs.Walk.{opens, other}
 use Rattle.format.specs.Bytes.{codeOf, codes}
 use Rattle.format.proofs.Coding.{length-codes, code-at}
-use Rattle.visits.specs.Cuts.{cubeOf, cutAt, codeAt, Given}
+use Rattle.cube.specs.Whole.{cubeOf, wholeAt}
+use Rattle.cube.proofs.Member.{codes-take}
+use Rattle.visits.specs.Cuts.{codeAt, Given}
 use Rattle.visits.specs.Opening.{firstOpen}
-use Rattle.visits.proofs.Places.{codes-take}
 use Rattle.visits.proofs.Openings.{first-opens, first-after}
 
 pub front-length : (q : ℕ) (bs : List ℕ) → q ≤ length bs → length (take (q - 0) bs) ≡ q
@@ -31,13 +32,13 @@ pub cube-length : (q : ℕ) (bs : List ℕ) → q ≤ length bs → length (cube
 unfolding cubeOf
 cube-length q bs h = length-codes (take q bs) ∙ ap (λ (n : ℕ). 4 * n) (length-take-le q bs h)
 
-pub cut-length : (q : ℕ) (s : List ℕ) (at : ℕ) → at + q ≤ length s → length (cutAt q s at) ≡ 4 * q
-unfolding cutAt
+pub cut-length : (q : ℕ) (s : List ℕ) (at : ℕ) → at + q ≤ length s → length (wholeAt q s at) ≡ 4 * q
+unfolding wholeAt
 cut-length q s at h = cube-length q (drop at s) (simp length-drop (omega arith))
 
 -- the code at a position, as the number that is read
-cut-code : (q : ℕ) (s : List ℕ) (at i : ℕ) → at + q ≤ length s → i < 4 * q → getD (cutAt q s at) i none ≡ codeOf (codeAt s at i)
-unfolding cutAt cubeOf codeAt
+cut-code : (q : ℕ) (s : List ℕ) (at i : ℕ) → at + q ≤ length s → i < 4 * q → getD (wholeAt q s at) i none ≡ codeOf (codeAt s at i)
+unfolding wholeAt cubeOf codeAt
 cut-code q s at i h k =
     let l : length (take q (drop at s)) ≡ q = length-take-le q (drop at s) (simp length-drop (omega arith)) in
     let m : i / 4 < q = omega arith in
@@ -68,16 +69,16 @@ opens-other free (suc (suc zero)) e = refl
 opens-other free (suc (suc (suc n))) e = cc
 
 pub record Opens (q cut i n : ℕ) (s near : List ℕ) : Type 0 where
-  pub even : length (cubeOf q near) ≡ length (cutAt q s cut)
+  pub even : length (cubeOf q near) ≡ length (wholeAt q s cut)
   pub inside : i < length (cubeOf q near)
   pub small : n ≤ 3
-  pub code : codeOf n ≡ getD (cutAt q s cut) i none
+  pub code : codeOf n ≡ getD (wholeAt q s cut) i none
   pub other : (m : ℕ) → m ≡ 3 - n → codeOf m ≡ other (codeOf n)
   pub free : getD (codes near) i none ≡ free
-  pub later : (r : List ℕ) → Given near i n r → i < firstOpen (cubeOf q r) (cutAt q s cut)
+  pub later : (r : List ℕ) → Given near i n r → i < firstOpen (cubeOf q r) (wholeAt q s cut)
 
 pub opens-at : (q cut i n : ℕ) (s near : List ℕ) → q ≤ 80 → length near ≡ 80 → cut + q ≤ length s → i < 4 * q
-    → i ≡ firstOpen (cubeOf q near) (cutAt q s cut) → n ≡ codeAt s cut i → Opens q cut i n s near
+    → i ≡ firstOpen (cubeOf q near) (wholeAt q s cut) → n ≡ codeAt s cut i → Opens q cut i n s near
 opens-at q cut i n s near short long there inside first read =
     record {
       even = even;
@@ -89,19 +90,19 @@ opens-at q cut i n s near short long there inside first read =
       later = later;
     }
   where
-    even : length (cubeOf q near) ≡ length (cutAt q s cut)
+    even : length (cubeOf q near) ≡ length (wholeAt q s cut)
     even = cube-length q near (omega arith) ∙ sym (cut-length q s cut there)
 
     within : i < length (cubeOf q near)
     within = rw (cube-length q near (omega arith)) inside
 
-    code : codeOf n ≡ getD (cutAt q s cut) i none
+    code : codeOf n ≡ getD (wholeAt q s cut) i none
     code = rw read (sym (cut-code q s cut i there inside))
 
     opening : opens (getD (cubeOf q near) i none) (codeOf n) ≡ true
-    opening = rw (code, first) (first-opens (cubeOf q near) (cutAt q s cut) even (rw first at within))
+    opening = rw (code, first) (first-opens (cubeOf q near) (wholeAt q s cut) even (rw first at within))
 
-    later : (r : List ℕ) → Given near i n r → i < firstOpen (cubeOf q r) (cutAt q s cut)
+    later : (r : List ℕ) → Given near i n r → i < firstOpen (cubeOf q r) (wholeAt q s cut)
     later r g =
-        let t = first-after (cubeOf q near) (cutAt q s cut) even (rw first at within) in
+        let t = first-after (cubeOf q near) (wholeAt q s cut) even (rw first at within) in
         rw (g .cube q inside, code) (rw (← first) at t)

@@ -9,7 +9,8 @@ use denote.Enum.Declared.{tagOf}
 use lib.ListN.{length, getD, set}
 use Rattle.model.specs.Cube.{Code, none, Cube}
 use Rattle.model.specs.Walk.{Found, piece, other, inTurn, next, children, visit}
-use Rattle.visits.specs.Cuts.{cutAt, cutsFrom, Skipped}
+use Rattle.cube.specs.Whole.{wholeAt, wholesAt}
+use Rattle.visits.specs.Cuts.{Skipped}
 use Rattle.visits.specs.Opening.{firstOpen}
 use Rattle.visits.specs.Settle.{Said, after, settle, leftFrom}
 use Rattle.visits.specs.declared.allowance.Allowance.{Allowance}
@@ -26,11 +27,11 @@ module _ (q : ℕ) (s : List ℕ) (p : Cube) (at n to m : ℕ) (a b : Allowance)
   begin-sum = omega (arith, ap (λ (x : Allowance). x .left) paid, ap (λ (x : Allowance). x .spent) paid)
 
   -- no cut is left
-  pub begin-survives : m ≡ 0 → record { allowance = b; verdict = Survives; piece = p } ≡ settle a (visit (cutsFrom q s at n) p)
+  pub begin-survives : m ≡ 0 → record { allowance = b; verdict = Survives; piece = p } ≡ settle a (visit (wholesAt q s at n) p)
   begin-survives z = rw (k .same, visit-none q s p to m z, settle-le a (record { pieces = 1; survivor = piece p }) pays, paid)
 
   -- a cut is left, and meets the piece
-  pub begin-split : (f : ℕ) → m ≡ suc f → settle a (visit (cutsFrom q s at n) p) ≡ leftFrom (visit (cutsFrom q s (to + q) f)) (cutAt q s to) b p
+  pub begin-split : (f : ℕ) → m ≡ suc f → settle a (visit (wholesAt q s at n) p) ≡ leftFrom (visit (wholesAt q s (to + q) f)) (wholeAt q s to) b p
   unfolding leftFrom
   begin-split f e = rw (k .same, visit-meet q s p to m f e (k .meeting (omega arith)), paid) (settle-on a 1 _ pays)
 

@@ -10,8 +10,8 @@ use mathlib.Core.Bool.{true, false, true≢false}
 use lib.ListN.{length}
 use Rattle.model.specs.Walk.{visit}
 use Rattle.format.proofs.Reached.{reached, each}
+use Rattle.cube.specs.Whole.{cubeOf, wholesAt}
 use Rattle.visits.specs.declared.allowance.Allowance.{Allowance}
-use Rattle.visits.specs.Cuts.{cubeOf, cutsFrom}
 use Rattle.visits.specs.Settle.{settle}
 use Rattle.visits.specs.Walked.{possibleRows, possible, idle, walked}
 
@@ -39,6 +39,6 @@ module _ (q : ℕ) (piece s : List ℕ) (at left : ℕ) (a : Allowance) where
   walked-idle e = rw e
 
   pub walked-settles : (q ≤ 80) × (at + left * q ≤ length s) × (left ≤ 65) × (a .left + a .spent < 2 ^ 32)
-      → walked q piece s at left a ≡ settle a (visit (cutsFrom q s at left) (cubeOf q piece))
+      → walked q piece s at left a ≡ settle a (visit (wholesAt q s at left) (cubeOf q piece))
   unfolding walked
   walked-settles f = rw (fits-possible (length s) q at left a f)

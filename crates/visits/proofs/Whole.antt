@@ -18,7 +18,8 @@ use Rattle.model.specs.Cube.{Code, Cube, shares}
 use Rattle.model.specs.Walk.{Survivor, nothing, piece, Found, visit}
 use Rattle.model.specs.Padding.{pad, padSurvivor, padFound}
 use Rattle.model.proofs.Padding.{Lengths, shares-pad, visit-pad}
-use Rattle.visits.specs.Cuts.{cubeOf, cutAt, cutsFrom}
+use Rattle.cube.specs.Whole.{cubeOf, wholeAt, wholesAt}
+use Rattle.cube.proofs.Member.{codes-take}
 use Rattle.visits.specs.Settle.{Said, kept, view, after, saidOf, settle}
 use Rattle.visits.specs.Words.{wide, row, cutsBelow}
 use Rattle.visits.specs.Alive.{Alive}
@@ -31,7 +32,6 @@ use Rattle.visits.specs.declared.allowance.Verdict.the-variants.{Covered
 use Rattle.visits.specs.declared.reply.Reply.{Reply}
 use Rattle.visits.proofs.allowance.Verdict.{the-type}
 use Rattle.visits.proofs.Settle.{settle-le, settle-lt, said-allowance}
-use Rattle.visits.proofs.Places.{codes-take}
 use Rattle.visits.proofs.Step.{cut-length}
 use Rattle.visits.proofs.Digits.{below-or}
 
@@ -39,8 +39,8 @@ unmet : (cuts : List (List ℕ)) (n : ℕ) (P : Cube) → shares P (row cuts n) 
 unfolding cutsBelow visit
 unmet cuts n P e = rw e
 
-from-lengths : (q : ℕ) (s : List ℕ) (at n : ℕ) → at + n * q ≤ length s → Lengths (4 * q) (cutsFrom q s at n)
-unfolding cutsFrom
+from-lengths : (q : ℕ) (s : List ℕ) (at n : ℕ) → at + n * q ≤ length s → Lengths (4 * q) (wholesAt q s at n)
+unfolding wholesAt
 from-lengths q s at zero h = tt
 from-lengths q s at (suc n) h = let e = suc-mul n q in (cut-length q s at (omega arith), from-lengths q s (at + q) n (omega arith))
 
@@ -54,8 +54,8 @@ not-undecided Survives h e = let z : _≡_ {A = ℕ} 0 1 = cc in omega arith
 not-undecided Undecided h e = ⊎-elim (λ (q : _≡_ {A = ℕ} 2 0). omega arith) (λ (q : _≡_ {A = ℕ} 2 1). omega arith) h
 
 module _ (q : ℕ) (s : List ℕ) (at left : ℕ) (cuts : List (List ℕ)) (l : Loaded q s at left cuts left) where
-  pub loaded-cuts : (k : ℕ) → k ≤ left → cutsBelow cuts k ≡ map (pad (320 - 4 * q)) (cutsFrom q s (at + (left - k) * q) k)
-  unfolding cutsBelow cutsFrom
+  pub loaded-cuts : (k : ℕ) → k ≤ left → cutsBelow cuts k ≡ map (pad (320 - 4 * q)) (wholesAt q s (at + (left - k) * q) k)
+  unfolding cutsBelow wholesAt
   loaded-cuts zero h = refl
   loaded-cuts (suc k) h =
       let a : left - 1 - k ≡ left - suc k = omega arith in
@@ -85,7 +85,7 @@ module _ (q : ℕ) (s : List ℕ) (at left : ℕ) (cuts : List (List ℕ)) (l : 
     loaded-alive n x h m = (m .0, λ j k. let e = last-row n j h k in m .1 j k ∙ rw (e, row-shares j (omega arith)))
 
     -- the cut before the last 64, where there is one
-    pub first-met : (n : ℕ) (b : Bool) → n ≡ min left 64 → left ≤ 65 → First left (shares p (cutAt q s at)) b → b ≡ true → shares P (row cuts n) ≡ true
+    pub first-met : (n : ℕ) (b : Bool) → n ≡ min left 64 → left ≤ 65 → First left (shares p (wholeAt q s at)) b → b ≡ true → shares P (row cuts n) ≡ true
     first-met n b en h f e =
         ⊎-elim (λ (k : left < 65). absurd (true≢false (sym e ∙ f .0 k)))
         (λ (k : 65 ≤ left).
@@ -93,7 +93,7 @@ module _ (q : ℕ) (s : List ℕ) (at left : ℕ) (cuts : List (List ℕ)) (l : 
         let y : at + 0 * q ≡ at = omega arith in
         row-shares n (omega arith) ∙ rw (z, y) (sym (f .1 k) ∙ e)) (below-or left 65)
 
-    pub first-passed : (n : ℕ) (b : Bool) → n ≡ min left 64 → left ≤ 65 → First left (shares p (cutAt q s at)) b → visit (cutsBelow cuts (cond b (suc n) n)) P ≡ visit (cutsBelow cuts left) P
+    pub first-passed : (n : ℕ) (b : Bool) → n ≡ min left 64 → left ≤ 65 → First left (shares p (wholeAt q s at)) b → visit (cutsBelow cuts (cond b (suc n) n)) P ≡ visit (cutsBelow cuts left) P
     first-passed n b en h f = ⊎-elim few more (below-or left 65)
       where
         few : left < 65 → visit (cutsBelow cuts (cond b (suc n) n)) P ≡ visit (cutsBelow cuts left) P
@@ -112,11 +112,11 @@ module _ (q : ℕ) (s : List ℕ) (at left : ℕ) (cuts : List (List ℕ)) (l : 
             go true w = refl
             go false w = sym (unmet cuts n P (row-shares n (omega arith) ∙ rw (z, y) (sym (f .1 k) ∙ w)))
 
-    pub whole : padFound (320 - 4 * q) (visit (cutsFrom q s at left) p) ≡ visit (cutsBelow cuts left) P
+    pub whole : padFound (320 - 4 * q) (visit (wholesAt q s at left) p) ≡ visit (cutsBelow cuts left) P
     whole =
         let z : left - left ≡ 0 = omega arith in
         let y : at + 0 * q ≡ at = omega arith in
-        sym (visit-pad (320 - 4 * q) (4 * q) (cutsFrom q s at left) p (from-lengths q s at left inside) lp) ∙ rw (eP, loaded-cuts left (omega arith), z, y)
+        sym (visit-pad (320 - 4 * q) (4 * q) (wholesAt q s at left) p (from-lengths q s at left inside) lp) ∙ rw (eP, loaded-cuts left (omega arith), z, y)
 
 -- with its unused places taken off again
 take-pad : (w u : ℕ) (p : Cube) → length p ≡ w → take w (pad u p) ≡ p

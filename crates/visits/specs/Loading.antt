@@ -13,8 +13,8 @@ use lib.ListN.{getD, take, replicate}
 use Rattle.model.specs.Cube.{none, Cube, shares}
 use Rattle.model.specs.Padding.{pad}
 use Rattle.format.specs.Bytes.{codeOf}
+use Rattle.cube.specs.Whole.{wholeAt}
 use Rattle.visits.specs.Opening.{bit}
-use Rattle.visits.specs.Cuts.{cutAt}
 use Rattle.visits.specs.Words.{row}
 use Rattle.visits.specs.Alive.{digit, clash}
 
@@ -25,7 +25,7 @@ abbrev pub Holds : List ℕ → ℕ → ℕ → ℕ → Type 0
 Holds P j b x = (x < 2 ^ (8 * j)) × ((k : ℕ) → k < 4 * j → x / 2 ^ (2 * (4 * j - 1 - k)) % 4 ≡ getD P (b + k / 4) 0 / 4 ^ (3 - k % 4) % 4)
 
 abbrev pub rowOf : ℕ → List ℕ → ℕ → ℕ → ℕ → Cube
-rowOf q s at n m = cutAt q s (at + (n - 1 - m) * q)
+rowOf q s at n m = wholeAt q s (at + (n - 1 - m) * q)
 
 abbrev pub Loaded : ℕ → List ℕ → ℕ → ℕ → List (List ℕ) → ℕ → Type 0
 Loaded q s at n cuts k = (m : ℕ) → m < k → row cuts m ≡ pad (320 - 4 * q) (rowOf q s at n m)

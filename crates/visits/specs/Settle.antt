@@ -16,12 +16,13 @@ use mathlib.Core.Bool.{cond}
 use lib.Dec.{leb}
 use Rattle.model.specs.Cube.{Cube}
 use Rattle.model.specs.Walk.{Survivor, nothing, piece, Found, children, inTurn, Decision, undecided, empty, member}
+use Rattle.cube.specs.Whole.{cubeOf}
 use Rattle.visits.specs.declared.allowance.Allowance.{Allowance}
 use Rattle.visits.specs.declared.allowance.Verdict.{Verdict}
 use Rattle.visits.specs.declared.allowance.Verdict.the-variants.{Covered, Survives, Undecided}
 use Rattle.visits.specs.declared.allowance.Outcome.{Outcome}
-use Rattle.visits.specs.Cuts.{cubeOf}
 
+-- "The allowance is 0 to 4,294,967,295 and is handed from visit to visit with what is spent."
 abbrev pub after : Allowance → ℕ → Allowance
 after a n = record { left = a .left - n; spent = a .spent + n }
 

@@ -12,9 +12,9 @@ use lib.ListN.{length}
 use Rattle.model.specs.Walk.{visit}
 use Rattle.model.specs.Ceiling.{mostPieces}
 use Rattle.format.specs.Rows.{Rows, last, row, below, outcome}
+use Rattle.cube.specs.Whole.{cubeOf, wholesAt}
 use Rattle.visits.specs.declared.allowance.Allowance.{Allowance}
 use Rattle.visits.specs.declared.allowance.Verdict.the-variants.{Undecided}
-use Rattle.visits.specs.Cuts.{cubeOf, cutsFrom}
 use Rattle.visits.specs.Settle.{Said, settle}
 
 abbrev pub possibleRows : ℕ → ℕ → ℕ → ℕ → Allowance → Rows Bool
@@ -33,4 +33,4 @@ idle a = record { allowance = a; verdict = Undecided; piece = [] }
 
 unfoldable pub walked : ℕ → List ℕ → List ℕ → ℕ → ℕ → Allowance → Said
 walked q piece s at left a =
-    cond (possible (length s) q at left a) (settle a (visit (cutsFrom q s at left) (cubeOf q piece))) (idle a)
+    cond (possible (length s) q at left a) (settle a (visit (wholesAt q s at left) (cubeOf q piece))) (idle a)

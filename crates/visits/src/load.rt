@@ -4,7 +4,7 @@ ghost use Prim.Native.Nat.{ℕ, _+_, _-_, _*_, _≤_, _<_};
 ghost use lib.ListN.{length, getD, drop};
 ghost use Rattle.model.specs.Padding.{pad};
 ghost use Rattle.format.specs.Bytes.{codes};
-ghost use Rattle.visits.specs.Cuts.{cutAt};
+ghost use Rattle.cube.specs.Whole.{wholeAt};
 ghost use Rattle.visits.specs.Words.{wide};
 ghost use Rattle.visits.specs.Loading.{padded, Holds, Loaded};
 
@@ -33,7 +33,7 @@ fn word(s: &[u8], at: usize, q: usize, b: usize) -> u64
 // The cube of q bytes that stands in s at an offset, in words.
 pub(crate) fn load(s: &[u8], at: usize, q: usize) -> [u64; 10]
     requires { ⌜ (q ≤ 80) × (at + q ≤ length (now s)) ⌝ }
-    ensures { λ r. ⌜ wide r ≡ pad (320 - 4 * q) (cutAt q (now (s .entry)) at) ⌝ }
+    ensures { λ r. ⌜ wide r ≡ pad (320 - 4 * q) (wholeAt q (now (s .entry)) at) ⌝ }
 {
     let mut ws = [18446744073709551615u64; 10];
     let mut w = 0;

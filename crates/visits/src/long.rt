@@ -6,7 +6,7 @@ ghost use lib.ListN.{length};
 ghost use Rattle.model.specs.Cube.{shares};
 ghost use Rattle.model.specs.Walk.{visit};
 ghost use Rattle.format.specs.Bytes.{codes};
-ghost use Rattle.visits.specs.Cuts.{cubeOf, cutAt, cutsFrom};
+ghost use Rattle.cube.specs.Whole.{cubeOf, wholeAt, wholesAt};
 ghost use Rattle.visits.specs.Settle.{settle, view};
 ghost use Rattle.visits.specs.Words.{wide, row, cutsBelow};
 ghost use Rattle.visits.specs.Alive.{Alive, Against};
@@ -42,7 +42,7 @@ fn digits(left: usize) -> usize
 // Whether there is a cut before the 64 that have a digit, and the piece meets it.
 fn first_meets(piece: &[u8], s: &[u8], at: usize, left: usize) -> bool
     requires { ⌜ at + left * length (now piece) ≤ length (now s) ⌝ }
-    ensures { λ r. ⌜ First left (shares (codes (now (piece .entry))) (cutAt (length (now (piece .entry))) (now (s .entry)) at)) r ⌝ }
+    ensures { λ r. ⌜ First left (shares (codes (now (piece .entry))) (wholeAt (length (now (piece .entry))) (now (s .entry)) at)) r ⌝ }
 {
     if left < 65 {
         return false;
@@ -93,7 +93,7 @@ fn told(r: Reply) -> Outcome
 // As `visit`, over words.
 fn long_walk(q: usize, piece: [u8; 80], s: &[u8], at: usize, left: usize, a: Allowance) -> Outcome
     requires { ⌜ (q ≤ 80) × (at + left * q ≤ length (now s)) × (left ≤ 65) × (a .left + a .spent < 2 ^ 32) ⌝ }
-    ensures { λ r. ⌜ view q r ≡ settle a (visit (cutsFrom q (now (s .entry)) at left) (cubeOf q piece)) ⌝ }
+    ensures { λ r. ⌜ view q r ≡ settle a (visit (wholesAt q (now (s .entry)) at left) (cubeOf q piece)) ⌝ }
 {
     let mut cuts = [[0u64; 10]; 65];
     load_cuts(&mut cuts, s, at, left, q);
@@ -136,7 +136,7 @@ fn resumed(a: Allowance, r: Outcome) -> Outcome
 // As `visit`, and fast where the walk is long.
 fn walk_within(q: usize, piece: [u8; 80], s: &[u8], at: usize, left: usize, a: Allowance) -> Outcome
     requires { ⌜ (q ≤ 80) × (at + left * q ≤ length (now s)) × (left ≤ 65) × (a .left + a .spent < 2 ^ 32) ⌝ }
-    ensures { λ r. ⌜ view q r ≡ settle a (visit (cutsFrom q (now (s .entry)) at left) (cubeOf q piece)) ⌝ }
+    ensures { λ r. ⌜ view q r ≡ settle a (visit (wholesAt q (now (s .entry)) at left) (cubeOf q piece)) ⌝ }
 {
     if a.left <= FEW {
         return visit::visit(q, piece, s, at, left, a);

@@ -5,7 +5,8 @@ ghost use lib.ListN.{length};
 ghost use Rattle.model.specs.Cube.{shares};
 ghost use Rattle.model.specs.Walk.{visit};
 ghost use Rattle.format.specs.Bytes.{codes};
-ghost use Rattle.visits.specs.Cuts.{cubeOf, cutAt, cutsFrom, Skipped};
+ghost use Rattle.cube.specs.Whole.{cubeOf, wholeAt, wholesAt};
+ghost use Rattle.visits.specs.Cuts.{Skipped};
 ghost use Rattle.visits.specs.Opening.{firstOpen};
 ghost use Rattle.visits.specs.Settle.{settle, view};
 use super::allowance::Allowance;
@@ -26,7 +27,7 @@ struct Next {
 // Whether the piece and the cut of as many bytes that stands in s share a header.
 fn met(piece: &[u8], s: &[u8], cut: usize) -> bool
     requires { ⌜ cut + length (now piece) ≤ length (now s) ⌝ }
-    ensures { λ r. ⌜ r ≡ shares (codes (now (piece .entry))) (cutAt (length (now (piece .entry))) (now (s .entry)) cut) ⌝ }
+    ensures { λ r. ⌜ r ≡ shares (codes (now (piece .entry))) (wholeAt (length (now (piece .entry))) (now (s .entry)) cut) ⌝ }
 {
     let end = cut + piece.len();
     meets(piece, &s[cut..end])
@@ -34,8 +35,8 @@ fn met(piece: &[u8], s: &[u8], cut: usize) -> bool
 
 // The first position of the piece that such a cut opens; the bytes before `from` have none.
 fn opened(near: &[u8], s: &[u8], cut: usize, from: usize) -> usize
-    requires { ⌜ (length (now near) ≤ 80) × (cut + length (now near) ≤ length (now s)) × (4 * from ≤ firstOpen (codes (now near)) (cutAt (length (now near)) (now s) cut)) ⌝ }
-    ensures { λ r. ⌜ r ≡ firstOpen (codes (now (near .entry))) (cutAt (length (now (near .entry))) (now (s .entry)) cut) ⌝ }
+    requires { ⌜ (length (now near) ≤ 80) × (cut + length (now near) ≤ length (now s)) × (4 * from ≤ firstOpen (codes (now near)) (wholeAt (length (now near)) (now s) cut)) ⌝ }
+    ensures { λ r. ⌜ r ≡ firstOpen (codes (now (near .entry))) (wholeAt (length (now (near .entry))) (now (s .entry)) cut) ⌝ }
 {
     let end = cut + near.len();
     next_open(near, &s[cut..end], from)
@@ -68,7 +69,7 @@ pub(crate) fn visit(
     a: Allowance,
 ) -> Outcome
     requires { ⌜ (q ≤ 80) × (at + left * q ≤ length (now s)) × (a .left + a .spent < 2 ^ 32) ⌝ }
-    ensures { λ r. ⌜ view q r ≡ settle a (visit (cutsFrom q (now (s .entry)) at left) (cubeOf q piece)) ⌝ }
+    ensures { λ r. ⌜ view q r ≡ settle a (visit (wholesAt q (now (s .entry)) at left) (cubeOf q piece)) ⌝ }
 {
     if a.left == 0 {
         return Outcome {

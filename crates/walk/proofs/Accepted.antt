@@ -18,24 +18,24 @@ use Rattle.format.specs.Bytes.{cubeLen, codes, cubeFault, unused}
 use Rattle.format.specs.Records.{countAt, differenceAt}
 use Rattle.format.specs.Told.{deciding}
 use Rattle.format.proofs.Recording.{Record, each-cube, good-read}
-use Rattle.visits.specs.Cuts.{cubeOf, cutAt, cutsFrom}
+use Rattle.cube.proofs.Wholes.{whole-padded, wholes-padded}
+use Rattle.cube.specs.Whole.{cubeOf, wholeAt, wholesAt}
+use Rattle.cube.proofs.Member.{codes-take}
 use Rattle.visits.specs.Settle.{view, kept, settle, decisionOf, decision}
 use Rattle.walk.specs.Tell.{toldOf}
 use Rattle.visits.specs.declared.allowance.Verdict.{Verdict}
 use Rattle.visits.specs.declared.allowance.Verdict.the-variants.{Covered, Survives, Undecided}
 use Rattle.visits.specs.declared.allowance.Outcome.{Outcome}
-use Rattle.visits.proofs.Cuts.{cut-padded, cuts-padded}
-use Rattle.visits.proofs.Places.{codes-take}
 use Rattle.visits.proofs.Settle.{decision-settle}
 
 module _ {alone : Bool} {w n : ℕ} {s : List ℕ} {at : ℕ} (r : Record alone w n s at) where
-  pub walk-padded : visit (cutsFrom (cubeLen w) s (at + 5 + cubeLen w) (countAt s at)) (cutAt (cubeLen w) s (at + 5)) ≡ padFound (unused w) (walk (differenceAt w s at))
+  pub walk-padded : visit (wholesAt (cubeLen w) s (at + 5 + cubeLen w) (countAt s at)) (wholeAt (cubeLen w) s (at + 5)) ≡ padFound (unused w) (walk (differenceAt w s at))
   walk-padded =
       let k = countAt s at in
       let g = good-read r in
       let z : at + 5 + 0 * cubeLen w ≡ at + 5 = omega arith in
-      let base = cut-padded w s (at + 5) (omega (arith, r)) (rw z at (each-cube r 0 (omega arith))) in
-      let cuts = cuts-padded w s (at + 5 + cubeLen w) k (omega (arith, r)) later in
+      let base = whole-padded w s (at + 5) (omega (arith, r)) (rw z at (each-cube r 0 (omega arith))) in
+      let cuts = wholes-padded w s (at + 5 + cubeLen w) k (omega (arith, r)) later in
       let d = differenceAt w s at in
       rw (base, cuts) (visit-pad (unused w) w (d .cuts) (d .base) (sized-lengths w (d .cuts) (g .cuts)) (g .base .wide))
     where

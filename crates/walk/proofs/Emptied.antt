@@ -26,9 +26,9 @@ use Rattle.format.specs.Told.{silent}
 use Rattle.format.specs.Calls.{diff-empty, region-empty}
 use Rattle.format.proofs.Recording.{record-of, good-read}
 use Rattle.format.proofs.Filing.{File, file-of, file-good}
+use Rattle.cube.specs.Whole.{wholeAt, wholesAt}
 use Rattle.region.specs.Ahead.{regionAhead}
 use Rattle.region.proofs.Onward.{Onward, file-region, region-end, region-next, onward-record}
-use Rattle.visits.specs.Cuts.{cutAt, cutsFrom}
 use Rattle.visits.specs.Settle.{Said, settle, view}
 use Rattle.walk.specs.Tell.{toldOf}
 use Rattle.visits.specs.declared.allowance.Allowance.{Allowance}
@@ -63,7 +63,7 @@ module _ (w : ℕ) (s : List ℕ) (n room : ℕ) where
         diff-room h = room-off w n room (walk (differenceAt w s 0)) h ∙ record-on w s 1 _ clean ∙ wide-on w _ some narrow
 
         pub diff-told : headerLen w ≤ room → (r : Outcome)
-            → view (cubeLen w) r ≡ settle (record { left = n; spent = 0 }) (visit (cutsFrom (cubeLen w) s (5 + cubeLen w) (countAt s 0)) (cutAt (cubeLen w) s 5))
+            → view (cubeLen w) r ≡ settle (record { left = n; spent = 0 }) (visit (wholesAt (cubeLen w) s (5 + cubeLen w) (countAt s 0)) (wholeAt (cubeLen w) s 5))
             → toldOf w (r .verdict) (r .allowance .spent) (r .piece) ≡ diff-empty w s n room
         unfolding diff-empty
         diff-told h r e =
@@ -107,9 +107,9 @@ module _ (s : List ℕ) (n room : ℕ) where
         ∙ room-on (widthOf s) n room (walkRegion (regionIn s)) h ∙ file-on s 1 _ clean
 
 -- the bytes of a cube by another name
-pub by-width : (w q : ℕ) (s : List ℕ) (at : ℕ) (a : Allowance) (d : Said) → q ≡ cubeLen w → d ≡ settle a (visit (cutsFrom q s (at + 5 + q) (countAt s at)) (cutAt q s (at + 5)))
-    → d ≡ settle a (visit (cutsFrom (cubeLen w) s (at + 5 + cubeLen w) (countAt s at)) (cutAt (cubeLen w) s (at + 5)))
-by-width w q s at a d h e = e ∙ ap (λ (q : ℕ). settle a (visit (cutsFrom q s (at + 5 + q) (countAt s at)) (cutAt q s (at + 5)))) h
+pub by-width : (w q : ℕ) (s : List ℕ) (at : ℕ) (a : Allowance) (d : Said) → q ≡ cubeLen w → d ≡ settle a (visit (wholesAt q s (at + 5 + q) (countAt s at)) (wholeAt q s (at + 5)))
+    → d ≡ settle a (visit (wholesAt (cubeLen w) s (at + 5 + cubeLen w) (countAt s at)) (wholeAt (cubeLen w) s (at + 5)))
+by-width w q s at a d h e = e ∙ ap (λ (q : ℕ). settle a (visit (wholesAt q s (at + 5 + q) (countAt s at)) (wholeAt q s (at + 5)))) h
 
 -- what is left to walk from an offset on
 module _ (s : List ℕ) where
@@ -121,7 +121,7 @@ module _ (w : ℕ) (s : List ℕ) (at : ℕ) (a : Allowance) where
   file-ended h = ap (λ (r : Region). settle a (walked w r)) (region-end w s at h) ∙ settle-zero a
 
   module _ (o : Onward w s at) (h : at < length s) (d : Said)
-      (e : d ≡ settle a (visit (cutsFrom (cubeLen w) s (at + 5 + cubeLen w) (countAt s at)) (cutAt (cubeLen w) s (at + 5)))) where
+      (e : d ≡ settle a (visit (wholesAt (cubeLen w) s (at + 5 + cubeLen w) (countAt s at)) (wholeAt (cubeLen w) s (at + 5)))) where
     first : d ≡ settle a (padFound (unused w) (walk (differenceAt w s at)))
     first = e ∙ ap (settle a) (walk-padded (onward-record o h))
 

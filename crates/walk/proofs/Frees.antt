@@ -27,7 +27,7 @@ use Rattle.model.proofs.Bools.{and-left, and-right}
 use Rattle.format.specs.Bytes.{codes}
 use Rattle.cube.specs.Count.{freeCount}
 use Rattle.cube.proofs.Codes.{codes-and}
-use Rattle.visits.specs.Cuts.{cubeOf, cutAt, cutsFrom}
+use Rattle.cube.specs.Whole.{cubeOf, wholeAt, wholesAt}
 
 pub count-append : (a b : Cube) → freeCount (a ++ b) ≡ freeCount a + freeCount b
 count-append [] b = omega arith
@@ -130,21 +130,21 @@ capped-raised f x = go (leb mostPieces x) refl
 
 -- cuts
 module _ (q : ℕ) (s : List ℕ) (b : Cube) (at : ℕ) where
-  pub ceiling-none : ceilingFrom b (cutsFrom q s at 0) ≡ 1
-  unfolding cutsFrom ceilingFrom
+  pub ceiling-none : ceilingFrom b (wholesAt q s at 0) ≡ 1
+  unfolding wholesAt ceilingFrom
   ceiling-none = refl
 
-  pub ceiling-apart : (m : ℕ) → shares b (cutAt q s at) ≡ false → ceilingFrom b (cutsFrom q s at (suc m)) ≡ ceilingFrom b (cutsFrom q s (at + q) m)
-  unfolding cutsFrom ceilingFrom
+  pub ceiling-apart : (m : ℕ) → shares b (wholeAt q s at) ≡ false → ceilingFrom b (wholesAt q s at (suc m)) ≡ ceilingFrom b (wholesAt q s (at + q) m)
+  unfolding wholesAt ceilingFrom
   ceiling-apart m e = rw e
 
-  pub ceiling-met : (m : ℕ) → shares b (cutAt q s at) ≡ true
-      → ceilingFrom b (cutsFrom q s at (suc m)) ≡ 1 + frees b (cutAt q s at) * ceilingFrom b (cutsFrom q s (at + q) m)
-  unfolding cutsFrom ceilingFrom
+  pub ceiling-met : (m : ℕ) → shares b (wholeAt q s at) ≡ true
+      → ceilingFrom b (wholesAt q s at (suc m)) ≡ 1 + frees b (wholeAt q s at) * ceilingFrom b (wholesAt q s (at + q) m)
+  unfolding wholesAt ceilingFrom
   ceiling-met m e = rw e
 
 -- the cuts from the last one on
-module _ (q : ℕ) (s : List ℕ) (b : Cube) (at left k n end here : ℕ) (pos : 0 < k) (few : k ≤ left) (e : at + k * q ≡ end) (h : here ≡ end - q) (inv : n ≡ capped (ceilingFrom b (cutsFrom q s end (left - k)))) where
+module _ (q : ℕ) (s : List ℕ) (b : Cube) (at left k n end here : ℕ) (pos : 0 < k) (few : k ≤ left) (e : at + k * q ≡ end) (h : here ≡ end - q) (inv : n ≡ capped (ceilingFrom b (wholesAt q s end (left - k)))) where
   pub back : (at + (k - 1) * q ≡ here) × (here + q ≡ end)
   back = go k pos e
     where
@@ -155,14 +155,14 @@ module _ (q : ℕ) (s : List ℕ) (b : Cube) (at left k n end here : ℕ) (pos :
   one-more : left - (k - 1) ≡ suc (left - k)
   one-more = omega arith
 
-  pub back-turn : (r : ℕ) → (shares b (cutAt q s here) ≡ false → r ≡ n) → (shares b (cutAt q s here) ≡ true → r ≡ capped (1 + frees b (cutAt q s here) * n))
-      → r ≡ capped (ceilingFrom b (cutsFrom q s here (left - (k - 1))))
-  back-turn r f g = rw one-more (go (shares b (cutAt q s here)) refl)
+  pub back-turn : (r : ℕ) → (shares b (wholeAt q s here) ≡ false → r ≡ n) → (shares b (wholeAt q s here) ≡ true → r ≡ capped (1 + frees b (wholeAt q s here) * n))
+      → r ≡ capped (ceilingFrom b (wholesAt q s here (left - (k - 1))))
+  back-turn r f g = rw one-more (go (shares b (wholeAt q s here)) refl)
     where
-      go : (t : Bool) → shares b (cutAt q s here) ≡ t → r ≡ capped (ceilingFrom b (cutsFrom q s here (suc (left - k))))
+      go : (t : Bool) → shares b (wholeAt q s here) ≡ t → r ≡ capped (ceilingFrom b (wholesAt q s here (suc (left - k))))
       go true t =
           rw (ceiling-met q s b here (left - k) t, back .1)
-          (g t ∙ rw inv (capped-raised (frees b (cutAt q s here)) (ceilingFrom b (cutsFrom q s end (left - k)))))
+          (g t ∙ rw inv (capped-raised (frees b (wholeAt q s here)) (ceilingFrom b (wholesAt q s end (left - k)))))
       go false t = rw (ceiling-apart q s b here (left - k) t, back .1) (f t ∙ inv)
 
 -- the part of s that is the cut before `end`
@@ -173,8 +173,8 @@ module _ (s : List ℕ) (end q : ℕ) (h : q ≤ end) (l : end ≤ length s) whe
   pub part-back-length : q ≡ length (take (end - (end - q)) (drop (end - q) s))
   part-back-length = rw width (simp (length-take, length-drop) (omega arith))
 
-  pub part-back : codes (take (end - (end - q)) (drop (end - q) s)) ≡ cutAt q s (end - q)
-  unfolding cutAt cubeOf
+  pub part-back : codes (take (end - (end - q)) (drop (end - q) s)) ≡ wholeAt q s (end - q)
+  unfolding wholeAt cubeOf
   part-back = rw width
 
 pub under : (at k q end : ℕ) → 0 < k → at + k * q ≡ end → q ≤ end
@@ -183,9 +183,9 @@ under at (suc m) q end p e = omega (arith, suc-mul m q)
 
 -- no cut is counted, and all are
 module _ (q : ℕ) (s : List ℕ) (b : Cube) (at left : ℕ) where
-  pub bound-begun : 1 ≡ capped (ceilingFrom b (cutsFrom q s (at + left * q) (left - left)))
+  pub bound-begun : 1 ≡ capped (ceilingFrom b (wholesAt q s (at + left * q) (left - left)))
   bound-begun = let e : left - left ≡ 0 = omega arith in rw (e, ceiling-none q s b (at + left * q))
 
-  pub bound-ended : (k end n : ℕ) → k ≤ 0 → at + k * q ≡ end → n ≡ capped (ceilingFrom b (cutsFrom q s end (left - k))) → n ≡ capped (ceilingFrom b (cutsFrom q s at left))
+  pub bound-ended : (k end n : ℕ) → k ≤ 0 → at + k * q ≡ end → n ≡ capped (ceilingFrom b (wholesAt q s end (left - k))) → n ≡ capped (ceilingFrom b (wholesAt q s at left))
   bound-ended zero end n z e inv = let f : at ≡ end = omega arith in let g : left - 0 ≡ left = omega arith in inv ∙ rw (g, f)
   bound-ended (suc k) end n z e inv = absurd (omega arith)

@@ -4,19 +4,26 @@
 --   met-piece                  the meet of two cubes of q bytes, written over the front of a piece
 use Prim.Native.Nat.{ℕ, zero, suc, _+_, _*_, _≤_, _<_}
 use native.Mathlib.Nat.{zero-add, suc-add, add-zero, zero-mul, suc-mul}
+use native.Mathlib.Numerals.{add-one}
 use native.Mathlib.Omega.{arith}
 use mathlib.Core.Path.{_≡_, refl, sym, ap, ap₂, _∙_}
 use mathlib.Core.List.{List, [], _∷_, _++_}
 use lib.ListN.{length, getD, take, drop, set, length-drop}
-use lib.Seq.{take-nil, take-take, take-at, take-set-le, drop-drop, drop-set-add}
+use lib.Seq.{take-nil, take-suc, take-suc-set, take-take, take-at, take-set-le, drop-drop, drop-set-add, getD-drop}
 use Rattle.model.specs.Cube.{Cube, meet}
 use Rattle.format.specs.Bytes.{codes}
 use Rattle.cube.specs.Pair.{andBytes, andInto}
 use Rattle.cube.proofs.Codes.{codes-and, length-and}
 use Rattle.cube.proofs.Pairs.{into-over}
-use Rattle.visits.specs.Cuts.{cubeOf, cutAt, cutsFrom}
+use Rattle.cube.specs.Whole.{cubeOf, wholeAt, wholesAt}
 use Rattle.walk.specs.Lent.{Copied}
-use Rattle.walk.proofs.Recorded.{copied}
+
+-- a byte more is copied from an offset on
+copied : (s piece : List ℕ) (at i : ℕ) → i < length piece → at + i < length s → take i piece ≡ take i (drop at s)
+    → take (i + 1) (set piece i (getD s (at + i) 0)) ≡ take (i + 1) (drop at s)
+copied s piece at i h l e =
+    let k : i < length (drop at s) = simp length-drop (omega arith) in
+    rw (add-one, take-suc-set piece i (getD s (at + i) 0) h, take-suc (drop at s) i 0 k, getD-drop at s i 0, e)
 
 pub copied-none : (s old : List ℕ) (at to : ℕ) → Copied s at 0 old to old
 copied-none s old at to = record { front = refl; there = refl }
@@ -36,8 +43,8 @@ drop-take (suc q) m [] = rw (suc-add, take-nil)
 drop-take (suc q) m (x ∷ l) = rw suc-add (drop-take q m l)
 
 -- the same bytes hold the same cuts
-cuts-same : (q n : ℕ) (s t : List ℕ) (at bt : ℕ) → take (n * q) (drop at s) ≡ take (n * q) (drop bt t) → cutsFrom q s at n ≡ cutsFrom q t bt n
-unfolding cutsFrom cutAt cubeOf
+cuts-same : (q n : ℕ) (s t : List ℕ) (at bt : ℕ) → take (n * q) (drop at s) ≡ take (n * q) (drop bt t) → wholesAt q s at n ≡ wholesAt q t bt n
+unfolding wholesAt wholeAt cubeOf
 cuts-same q zero s t at bt e = refl
 cuts-same q (suc n) s t at bt e =
     let m : suc n * q ≡ q + n * q = omega (arith, suc-mul n q) in
@@ -48,16 +55,16 @@ cuts-same q (suc n) s t at bt e =
     (cuts-same q n s t (at + q) (bt + q) (rw (drop-drop q at s, drop-drop q bt t) at later))
 
 -- n cuts, and one behind them
-cuts-last : (q n : ℕ) (s : List ℕ) (at : ℕ) → cutsFrom q s at (n + 1) ≡ cutsFrom q s at n ++ (cutAt q s (at + n * q) ∷ [])
-unfolding cutsFrom
+cuts-last : (q n : ℕ) (s : List ℕ) (at : ℕ) → wholesAt q s at (n + 1) ≡ wholesAt q s at n ++ (wholeAt q s (at + n * q) ∷ [])
+unfolding wholesAt
 cuts-last q zero s at = rw (zero-mul, add-zero)
 cuts-last q (suc n) s at =
     let e : at + suc n * q ≡ at + q + n * q = omega (arith, suc-mul n q) in
     rw (suc-add, e, cuts-last q n s (at + q))
 
 pub cuts-gathered : (q n : ℕ) (s t old mid new : List ℕ) (at bt : ℕ) → Copied s at (n * q) old 0 mid → Copied t bt q mid (n * q) new
-    → cutsFrom q new 0 (n + 1) ≡ cutsFrom q s at n ++ (cutAt q t bt ∷ [])
-unfolding cutAt cubeOf
+    → wholesAt q new 0 (n + 1) ≡ wholesAt q s at n ++ (wholeAt q t bt ∷ [])
+unfolding wholeAt cubeOf
 cuts-gathered q n s t old mid new at bt k l =
     let z : 0 + n * q ≡ n * q = zero-add (n * q) in
     cuts-last q n new 0

@@ -2,7 +2,7 @@
 --   record-base, record-cuts   the base and the cuts of an accepted record
 --   record-ceiling             the ceiling of its difference
 --   ceiling-zero, ceiling-above, ceiling-refused, ceiling-told   what the call `ceiling` tells
---   copied, loaded             a byte more of a cube is copied, and then the whole
+--   loaded                     bytes that are copied hold the cube
 --   record-room                where its cubes stand
 use Prim.Native.Nat.{ℕ, suc, _+_, _*_, _≤_, _<_}
 use native.Mathlib.Nat.{suc-mul, zero-mul}
@@ -11,8 +11,7 @@ use native.Mathlib.Omega.{arith}
 use mathlib.Core.Path.{_≡_, ap, ap₂, _∙_}
 use mathlib.Core.List.{List, map}
 use mathlib.Core.Bool.{Bool, true}
-use lib.ListN.{length, getD, take, drop, set, length-drop}
-use lib.Seq.{take-suc, take-suc-set, getD-drop}
+use lib.ListN.{length, take, drop}
 use Rattle.model.specs.Ceiling.{ceilingFrom, ceiling, capped}
 use Rattle.model.specs.Padding.{pad}
 use Rattle.model.proofs.Padding.{sized-lengths, ceiling-pad}
@@ -25,26 +24,26 @@ use Rattle.format.specs.Calls.{ceiling-of}
 use Rattle.format.specs.Rows.{last}
 use Rattle.format.proofs.Reached.{reached}
 use Rattle.format.proofs.Recording.{Record, record-of, each-cube, good-read}
-use Rattle.visits.specs.Cuts.{cubeOf, cutAt, cutsFrom}
+use Rattle.cube.proofs.Wholes.{whole-padded, wholes-padded}
+use Rattle.cube.specs.Whole.{cubeOf, wholeAt, wholesAt}
 use Rattle.walk.proofs.Telling.{wide-zero, wide-above, wide-on, record-off, record-on}
-use Rattle.visits.proofs.Cuts.{cut-padded, cuts-padded}
 
 module _ {alone : Bool} {w n : ℕ} {s : List ℕ} {at : ℕ} (r : Record alone w n s at) where
   pub record-room : at + 5 + cubeLen w + countAt s at * cubeLen w ≤ length s
   record-room = let e : (countAt s at + 1) * cubeLen w ≡ countAt s at * cubeLen w + cubeLen w = rw (add-one, suc-mul) in omega (arith, r .next, r .within)
 
-  pub record-base : cutAt (cubeLen w) s (at + 5) ≡ pad (unused w) (differenceAt w s at .base)
+  pub record-base : wholeAt (cubeLen w) s (at + 5) ≡ pad (unused w) (differenceAt w s at .base)
   record-base =
       let e : at + 5 + 0 * cubeLen w ≡ at + 5 = omega (arith, zero-mul (cubeLen w)) in
-      cut-padded w s (at + 5) (omega (arith, record-room)) (rw e at (each-cube r 0 (omega arith)))
+      whole-padded w s (at + 5) (omega (arith, record-room)) (rw e at (each-cube r 0 (omega arith)))
 
   later : (i : ℕ) → at + 5 + suc i * cubeLen w ≡ at + 5 + cubeLen w + i * cubeLen w
   later i = omega (arith, suc-mul i (cubeLen w))
 
-  pub record-cuts : cutsFrom (cubeLen w) s (at + 5 + cubeLen w) (countAt s at) ≡ map (pad (unused w)) (differenceAt w s at .cuts)
-  record-cuts = cuts-padded w s (at + 5 + cubeLen w) (countAt s at) record-room (λ i h. rw (later i) at (each-cube r (suc i) h))
+  pub record-cuts : wholesAt (cubeLen w) s (at + 5 + cubeLen w) (countAt s at) ≡ map (pad (unused w)) (differenceAt w s at .cuts)
+  record-cuts = wholes-padded w s (at + 5 + cubeLen w) (countAt s at) record-room (λ i h. rw (later i) at (each-cube r (suc i) h))
 
-  pub record-ceiling : ceilingFrom (cutAt (cubeLen w) s (at + 5)) (cutsFrom (cubeLen w) s (at + 5 + cubeLen w) (countAt s at)) ≡ ceiling (differenceAt w s at)
+  pub record-ceiling : ceilingFrom (wholeAt (cubeLen w) s (at + 5)) (wholesAt (cubeLen w) s (at + 5 + cubeLen w) (countAt s at)) ≡ ceiling (differenceAt w s at)
   record-ceiling =
       let g = good-read r in
       ap₂ ceilingFrom record-base record-cuts ∙ ceiling-pad (unused w) w (differenceAt w s at .base) (differenceAt w s at .cuts) (g .base .wide) (sized-lengths w (differenceAt w s at .cuts) (g .cuts))
@@ -66,20 +65,13 @@ module _ (w : ℕ) (s : List ℕ) where
       ceiling-refused n = record-off w s 1 _ n ∙ wide-on w _ some narrow
 
       pub ceiling-told : differenceFault true w 0 s 0 ≡ 0 → (n : ℕ)
-          → n ≡ capped (ceilingFrom (cutAt (cubeLen w) s 5) (cutsFrom (cubeLen w) s (5 + cubeLen w) (countAt s 0))) → silent (counted 0 n) ≡ ceiling-of w s
+          → n ≡ capped (ceilingFrom (wholeAt (cubeLen w) s 5) (wholesAt (cubeLen w) s (5 + cubeLen w) (countAt s 0))) → silent (counted 0 n) ≡ ceiling-of w s
       unfolding ceiling-of
       ceiling-told e n h =
           ap (λ (m : ℕ). silent (counted 0 m)) (h ∙ ap capped (record-ceiling (record-of true w 0 s 0 e)))
           ∙ reached 0 (last (silent (counted 0 (capped (ceiling (differenceAt w s 0)))))) tt ∙ record-on w s 1 _ e ∙ wide-on w _ some narrow
 
--- a byte more is copied from an offset on
-pub copied : (s piece : List ℕ) (at i : ℕ) → i < length piece → at + i < length s → take i piece ≡ take i (drop at s)
-    → take (i + 1) (set piece i (getD s (at + i) 0)) ≡ take (i + 1) (drop at s)
-copied s piece at i h l e =
-    let k : i < length (drop at s) = simp length-drop (omega arith) in
-    rw (add-one, take-suc-set piece i (getD s (at + i) 0) h, take-suc (drop at s) i 0 k, getD-drop at s i 0, e)
-
 -- what is copied is the cube
-pub loaded : (q : ℕ) (s : List ℕ) (at : ℕ) (r : List ℕ) → take q r ≡ take q (drop at s) → cubeOf q r ≡ cutAt q s at
-unfolding cubeOf cutAt
+pub loaded : (q : ℕ) (s : List ℕ) (at : ℕ) (r : List ℕ) → take q r ≡ take q (drop at s) → cubeOf q r ≡ wholeAt q s at
+unfolding cubeOf wholeAt
 loaded q s at r e = ap codes e

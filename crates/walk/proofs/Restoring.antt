@@ -17,7 +17,7 @@ use Rattle.model.specs.Walk.{nothing, Found, next, visit, walk, walkRegion, wal
 use Rattle.model.specs.Padding.{pad, padFound, padDifference}
 use Rattle.model.proofs.Padding.{sized-lengths, shares-pad, meet-pad, visit-pad}
 use Rattle.model.proofs.Setting.{good-subtraction}
-use Rattle.visits.specs.Cuts.{cutAt, cutsFrom}
+use Rattle.cube.specs.Whole.{wholeAt, wholesAt}
 use Rattle.walk.specs.Lent.{walkBack}
 use Rattle.visits.specs.Settle.{Said, settle}
 use Rattle.visits.specs.declared.allowance.Allowance.{Allowance}
@@ -58,12 +58,12 @@ restored-next a c cs = go (shares (a .base) c)
 
 module _ (a : Difference) (q : ℕ) (t : List ℕ) (at n : ℕ) where
   pub restored-cut : (m : ℕ) → n ≡ suc m
-      → walkRegion (restored a (cutsFrom q t at n)) ≡ next (walkBack a (cutAt q t at)) (walkRegion (restored a (cutsFrom q t (at + q) m)))
-  unfolding cutsFrom
-  restored-cut m e = rw e (restored-next a (cutAt q t at) (cutsFrom q t (at + q) m))
+      → walkRegion (restored a (wholesAt q t at n)) ≡ next (walkBack a (wholeAt q t at)) (walkRegion (restored a (wholesAt q t (at + q) m)))
+  unfolding wholesAt
+  restored-cut m e = rw e (restored-next a (wholeAt q t at) (wholesAt q t (at + q) m))
 
-  pub restored-none : n ≡ 0 → (h : Allowance) → record { allowance = h; verdict = Covered; piece = [] } ≡ settle h (walkRegion (restored a (cutsFrom q t at n)))
-  unfolding cutsFrom restored
+  pub restored-none : n ≡ 0 → (h : Allowance) → record { allowance = h; verdict = Covered; piece = [] } ≡ settle h (walkRegion (restored a (wholesAt q t at n)))
+  unfolding wholesAt restored
   restored-none e h = rw e (sym (settle-zero h))
 
 -- over whole bytes

@@ -14,7 +14,7 @@ use Rattle.model.specs.Difference.{Difference, less}
 use Rattle.model.specs.Walk.{nothing, Found, walk}
 use Rattle.format.specs.Limits.{mostCuts}
 use Rattle.format.specs.Records.{countAt}
-use Rattle.visits.specs.Cuts.{cutAt, cutsFrom}
+use Rattle.cube.specs.Whole.{wholeDifference}
 
 pub record Whole (q : ℕ) (s : List ℕ) : Type 0 where
   pub short : q ≤ 80
@@ -22,7 +22,7 @@ pub record Whole (q : ℕ) (s : List ℕ) : Type 0 where
   pub inside : 5 + q + countAt s 0 * q ≤ length s
 
 abbrev pub lent : ℕ → List ℕ → Difference
-lent q s = less (cutAt q s 5) (cutsFrom q s (5 + q) (countAt s 0))
+lent q s = wholeDifference q s 0
 
 unfoldable pub walkBack : Difference → Cube → Found
 walkBack a c =

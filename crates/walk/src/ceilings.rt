@@ -9,7 +9,7 @@ ghost use Rattle.model.specs.Ceiling.{frees, ceilingFrom, capped};
 ghost use Rattle.format.specs.Bytes.{codes};
 ghost use Rattle.format.specs.Calls.{ceiling-of};
 ghost use Rattle.cube.specs.Count.{freeCount};
-ghost use Rattle.visits.specs.Cuts.{cutsFrom};
+ghost use Rattle.cube.specs.Whole.{wholesAt};
 use answer::Answer;
 use cube::WIDEST;
 use cube::cube_len;
@@ -68,7 +68,7 @@ fn climbed(base: &[u8], cut: &[u8], n: u32) -> u32
 // The capped ceiling of the base with the `left` cuts of as many bytes that stand in s from `at` on, the last cut first.
 fn bound(base: &[u8], s: &[u8], at: usize, left: usize) -> u32
     requires { ⌜ (length (now base) ≤ 80) × (at + left * length (now base) ≤ length (now s)) ⌝ }
-    ensures { λ r. ⌜ r ≡ capped (ceilingFrom (codes (now (base .entry))) (cutsFrom (length (now (base .entry))) (now (s .entry)) at left)) ⌝ }
+    ensures { λ r. ⌜ r ≡ capped (ceilingFrom (codes (now (base .entry))) (wholesAt (length (now (base .entry))) (now (s .entry)) at left)) ⌝ }
 {
     let mut n: u32 = 1;
     let mut k = left;

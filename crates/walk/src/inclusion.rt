@@ -9,9 +9,10 @@ ghost use Rattle.model.specs.Walk.{visit, walkRegion, walkInclusion};
 ghost use Rattle.format.specs.Records.{countAt};
 ghost use Rattle.format.specs.Told.{over};
 ghost use Rattle.format.specs.Calls.{diff-in};
-ghost use Rattle.visits.specs.Cuts.{cubeOf, cutAt, cutsFrom};
-ghost use Rattle.walk.specs.Lent.{Whole, lent, walkBack, Copied};
+ghost use Rattle.cube.specs.Whole.{cubeOf, wholeAt, wholesAt};
+ghost use Rattle.walk.specs.Lent.{Whole, lent, walkBack};
 ghost use Rattle.visits.specs.Settle.{settle, view};
+use super::copying::copy;
 use super::record::load;
 use super::told::tell;
 use answer::Answer;
@@ -27,22 +28,10 @@ use visits::Outcome;
 use visits::Verdict;
 use visits::walk;
 
-// Copies n bytes of s from an offset on over those of out from another on.
-fn copy(s: &[u8], at: usize, n: usize, out: &mut [u8], to: usize)
-    requires { ⌜ (at + n ≤ length (now s)) × (to + n ≤ length (now out)) ⌝ }
-    ensures { λ _. ⌜ Copied (now (s .entry)) at n (now (out .entry)) to (now (out .exit)) ⌝ }
-{
-    let mut i = 0;
-    while i < n {
-        out[to + i] = s[at + i];
-        i += 1;
-    }
-}
-
 // The cuts of the record s, and the base of the record t as one more behind them: at most 65 of 80 bytes each.
 fn gathered(q: usize, s: &[u8], t: &[u8]) -> [u8; 5200]
     requires { ⌜ Whole q (now s) × Whole q (now t) ⌝ }
-    ensures { λ r. ⌜ cutsFrom q r 0 (countAt (now (s .entry)) 0 + 1) ≡ lent q (now (s .entry)) .cuts ++ (lent q (now (t .entry)) .base ∷ []) ⌝ }
+    ensures { λ r. ⌜ wholesAt q r 0 (countAt (now (s .entry)) 0 + 1) ≡ lent q (now (s .entry)) .cuts ++ (lent q (now (t .entry)) .base ∷ []) ⌝ }
 {
     let mut all = [255u8; 5200];
     let n = count_at(s, 0) * q;
@@ -63,7 +52,7 @@ fn walk_first(q: usize, s: &[u8], t: &[u8], a: Allowance) -> Outcome
 // The meet of the base of s and the cut that stands in t at an offset, as a piece.
 fn meet_at(q: usize, s: &[u8], t: &[u8], at: usize) -> [u8; 80]
     requires { ⌜ Whole q (now s) × (at + q ≤ length (now t)) ⌝ }
-    ensures { λ r. ⌜ cubeOf q r ≡ meet (lent q (now (s .entry)) .base) (cutAt q (now (t .entry)) at) ⌝ }
+    ensures { λ r. ⌜ cubeOf q r ≡ meet (lent q (now (s .entry)) .base) (wholeAt q (now (t .entry)) at) ⌝ }
 {
     let cuts = 5 + q;
     let end = at + q;
@@ -75,7 +64,7 @@ fn meet_at(q: usize, s: &[u8], t: &[u8], at: usize) -> [u8; 80]
 // Walks what the cut that stands in t at an offset gives back of s: nothing where it shares no header with the base of s.
 fn walk_back(q: usize, s: &[u8], t: &[u8], at: usize, a: Allowance) -> Outcome
     requires { ⌜ Whole q (now s) × (at + q ≤ length (now t)) × (a .left + a .spent < 2 ^ 32) ⌝ }
-    ensures { λ r. ⌜ view q r ≡ settle a (walkBack (lent q (now (s .entry))) (cutAt q (now (t .entry)) at)) ⌝ }
+    ensures { λ r. ⌜ view q r ≡ settle a (walkBack (lent q (now (s .entry))) (wholeAt q (now (t .entry)) at)) ⌝ }
 {
     let piece = meet_at(q, s, t, at);
     let cuts = 5 + q;

@@ -66,7 +66,7 @@ impl Iterator for Lines {
 
 fn round(random: &mut Random) -> Vec<Kind> {
     let mut round: Vec<Kind> = aims::all().into_iter().map(Kind::Aimed).collect();
-    round.extend(FLAWS.map(Kind::Flawed));
+    round.extend(FLAWS.iter().copied().map(Kind::Flawed));
     round.extend(extremes());
     round.extend(vec![Kind::Free; round.len()]);
     random.shuffle(&mut round);

@@ -3,9 +3,20 @@
 use super::random::Random;
 use crate::desk::{sorts, Sort, LONGEST_LINE};
 
-/// A way to make a line unreadable.
-#[derive(Clone, Copy, Debug, PartialEq, Eq)]
-pub enum Flaw {
+/// The ways to make a line unreadable, as one list: the enum and all its values in order.
+macro_rules! flaws {
+    ($($name:ident),* $(,)?) => {
+        /// A way to make a line unreadable.
+        #[derive(Clone, Copy, Debug, PartialEq, Eq)]
+        pub enum Flaw {
+            $($name),*
+        }
+
+        pub const FLAWS: &[Flaw] = &[$(Flaw::$name),*];
+    };
+}
+
+flaws! {
     Name,
     NoName,
     ArgumentDropped,
@@ -30,35 +41,6 @@ pub enum Flaw {
     Joined,
     Nothing,
 }
-
-pub const FLAWS: [Flaw; 23] = {
-    use Flaw::*;
-    [
-        Name,
-        NoName,
-        ArgumentDropped,
-        ArgumentAdded,
-        Sign,
-        NoDigit,
-        DashForNumber,
-        Empty,
-        RoomTooLarge,
-        AllowanceTooLarge,
-        NumberTooLarge,
-        ManyDigits,
-        OddHex,
-        NoHexDigit,
-        DashInHex,
-        SpaceBefore,
-        SpaceAfter,
-        TwoSpaces,
-        Tab,
-        CarriageReturn,
-        NotAscii,
-        Joined,
-        Nothing,
-    ]
-};
 
 /// The readable line with this flaw; the same line if it has no place for the flaw.
 pub fn flawed(random: &mut Random, flaw: Flaw, line: &str) -> String {

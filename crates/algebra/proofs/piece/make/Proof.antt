@@ -9,7 +9,7 @@ use lib.ListN.{length, take}
 use lib.Seq.{length-take-le}
 use borrow.Author.Tests.{not-true, not-false}
 use Rattle.format.specs.Bytes.{codes}
-use Rattle.algebra.specs.Whole.{wholeAt}
+use Rattle.cube.specs.Whole.{cubeOf, wholeAt}
 use Rattle.algebra.specs.Stops.{basesOf}
 use Rattle.algebra.proofs.Pieces.{piece-none, piece-omitted, piece-covered, piece-kept}
 use borrow.Author.Needs.{needs}
@@ -34,7 +34,7 @@ row-room n q h l = omega (arith, mul-le-mul {n₁ = n + 1} {m₁ = q} {n₂ = 12
 
 base-is : (c : tie.After-put-base) → c .put-base .result ≡ true
     → let p = c .before .before .before .before .before .args in codes (base c) ∷ [] ≡ basesOf (p .q) (p .s .now) (p .a) (p .t .now) (p .stop)
-unfolding wholeAt
+unfolding wholeAt cubeOf
 base-is c e = let p = c .before .before .before .before .before .args in let d : p .q - 0 ≡ p .q = omega arith in rw d (rw e at (c .put-base .ensures))
 
 slice-aggregate-put-base : tie.Need-slice-aggregate-put-base

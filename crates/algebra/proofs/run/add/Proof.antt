@@ -1,7 +1,7 @@
 use Prim.Native.Nat.{_+_}
 use native.Mathlib.Omega.{arith}
 use Rattle.model.specs.Difference.{less}
-use Rattle.algebra.specs.Whole.{wholeAt, wholesAt}
+use Rattle.cube.specs.Whole.{wholeAt, wholesAt}
 use Rattle.algebra.specs.Tidied.{held}
 use Rattle.algebra.proofs.Wholes.{cubes-few}
 use Rattle.algebra.proofs.Written.{all-bytes, row-length, record-length}

@@ -11,9 +11,9 @@ use borrow.Rule.Slice.PartMut.{putMid}
 use Rattle.model.specs.Cube.{shares}
 use Rattle.format.specs.Bytes.{codes}
 use Rattle.cube.specs.Pair.{andBytes}
-use Rattle.algebra.specs.Whole.{wholeAt}
+use Rattle.cube.proofs.Wholes.{whole-part}
+use Rattle.cube.specs.Whole.{wholeAt}
 use Rattle.algebra.specs.Lay.{laid}
-use Rattle.algebra.proofs.Wholes.{whole-part}
 use Rattle.algebra.proofs.Meeting.{met-back}
 use borrow.Author.Needs.{needs}
 use Rattle.algebra.proofs.tidying.take_cut.Statement.{statement}

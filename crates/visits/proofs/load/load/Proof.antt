@@ -5,7 +5,6 @@ use mathlib.Core.Logic.{⊎-elim}
 use Rattle.visits.proofs.Carrying.{holds-free, padded-long, padded-codes, wide-holds, word-more}
 use lib.Seq.{getD-set-other}
 use Rattle.visits.specs.Loading.{padded, Holds}
-use Rattle.visits.specs.Cuts.{cutAt}
 use lib.ListN.{length, getD, drop, length-set, length-drop}
 use mathlib.Core.Path.{_≡_, refl, _∙_}
 use native.Mathlib.Omega.{arith}
@@ -13,6 +12,7 @@ use Prim.Native.Nat.{ℕ, _+_, _-_, _*_, _≤_, _<_}
 use borrow.Author.Needs.{needs}
 use Rattle.visits.proofs.load.load.Statement.{statement}
 use Rattle.visits.proofs.load.load.Tie as tie
+use Rattle.cube.specs.Whole.{wholeAt}
 
 abbrev Inv-loop : tie.InvT-loop
 Inv-loop s at q ws₀ w₀ ws w =
@@ -58,7 +58,7 @@ loop-again c =
     )
 
 returns : tie.Need-returns Inv-loop μ-loop
-unfolding cutAt
+unfolding wholeAt
 returns c =
     let at = c .before in
     let st = at .before .before in

@@ -1,8 +1,8 @@
 -- `visits::long::first_meets` meets its contract. Assumes nothing.
-use Rattle.visits.proofs.Cuts.{part-cut}
 use Rattle.visits.proofs.Whole.{one-fits}
 use Rattle.format.specs.Bytes.{codes}
 use Rattle.model.specs.Cube.{shares}
+use Rattle.cube.proofs.Wholes.{whole-part}
 use lib.ListN.{length}
 use mathlib.Core.Path.{_∙_, ap}
 use mathlib.Core.Path.{refl}
@@ -32,7 +32,7 @@ meets-requires c κs = search needs
 returns-2 : tie.Need-returns-2
 returns-2 c =
     let st = c .before .before .before .before .before in
-    (λ h. absurd (omega (arith, c .before .before .if1 .left)), λ h. c .meets .ensures ∙ ap (shares (codes (st .args .piece .now))) (part-cut (st .args .s .now) (st .args .at) (length (st .args .piece .now))))
+    (λ h. absurd (omega (arith, c .before .before .if1 .left)), λ h. c .meets .ensures ∙ ap (shares (codes (st .args .piece .now))) (whole-part (length (st .args .piece .now)) (st .args .s .now) (st .args .at)))
 
 pub first-meets-spec : {M : Type 1} → statement M
 first-meets-spec =

@@ -6,10 +6,10 @@ use Rattle.visits.specs.Telling.{First}
 use Rattle.visits.specs.Loading.{Met}
 use Rattle.visits.specs.Words.{wide}
 use Rattle.visits.specs.Settle.{settle}
-use Rattle.visits.specs.Cuts.{cubeOf, cutAt}
 use Rattle.model.proofs.Walking.{survivor-length}
 use Rattle.model.specs.Padding.{pad}
 use Rattle.model.specs.Cube.{shares}
+use Rattle.cube.specs.Whole.{cubeOf, wholeAt}
 use lib.ListN.{length}
 use mathlib.Core.Path.{_≡_, refl, sym, ap, _∙_}
 use Prim.Native.Nat.{_+_, _-_, _*_, _≤_}
@@ -35,7 +35,7 @@ fit c =
 base : (c : tie.After-load) →
     let st = c .before .before .before .before .before .before .before .before .before .before .before .before .before .before .before .before .before in
     wide (c .load .result) ≡ pad (320 - 4 * st .args .q) (cubeOf (st .args .q) (st .args .t2))
-unfolding cutAt
+unfolding wholeAt
 base c = c .load .ensures
 
 -- the cuts that it meets
@@ -50,7 +50,7 @@ alive c =
 
 first : (c : tie.After-first-meets) →
     let g = c .before .before .before .before .before .before .before .before .before .before .before .before .before .before .before .args in
-    First (g .left) (shares (cubeOf (g .q) (g .t2)) (cutAt (g .q) (g .s .now) (g .at))) (c .first-meets .result)
+    First (g .left) (shares (cubeOf (g .q) (g .t2)) (wholeAt (g .q) (g .s .now) (g .at))) (c .first-meets .result)
 first c =
     let st = c .before .before .before .before .before .before .before .before .before .before .before .before .before .before .before in
     rw (front-length (st .args .q) (st .args .t2) (long st), front-cube (st .args .q) (st .args .t2)) at (c .first-meets .ensures)

@@ -8,7 +8,8 @@ use mathlib.Core.Path.{_≡_, refl, sym, _∙_}
 use lib.ListN.{length}
 use Rattle.model.specs.Walk.{visit as visits}
 use Rattle.model.proofs.Walking.{walk-positive}
-use Rattle.visits.specs.Cuts.{cubeOf, cutAt, cutsFrom, Skipped}
+use Rattle.cube.specs.Whole.{cubeOf, wholeAt, wholesAt}
+use Rattle.visits.specs.Cuts.{Skipped}
 use Rattle.visits.specs.Opening.{firstOpen}
 use Rattle.visits.specs.Settle.{settle, leftFrom}
 use Rattle.visits.proofs.Cuts.{room}
@@ -46,8 +47,8 @@ Inv q s at left have₀ cut rest fewer near₀ i₀ have near i =
     × (rest + fewer * q ≤ length s)
     × (length near ≡ 80)
     × (have .left + have .spent < 2 ^ 32)
-    × (i ≡ firstOpen (cubeOf q near) (cutAt q s cut))
-    × (leftFrom (visits (cutsFrom q s rest fewer)) (cutAt q s cut) have₀ (cubeOf q near₀) ≡ leftFrom (visits (cutsFrom q s rest fewer)) (cutAt q s cut) have (cubeOf q near))
+    × (i ≡ firstOpen (cubeOf q near) (wholeAt q s cut))
+    × (leftFrom (visits (wholesAt q s rest fewer)) (wholeAt q s cut) have₀ (cubeOf q near₀) ≡ leftFrom (visits (wholesAt q s rest fewer)) (wholeAt q s cut) have (cubeOf q near))
 
 abbrev μ : visit-lts.MeasureT-loop
 μ q s at left have₀ cut rest fewer near₀ i₀ have near i = 4 * q - i
@@ -80,8 +81,8 @@ begun : (t : ℕ) (c : visit-lts.At-loop (given t) (visit-at t) visit.Post Inv �
     let k = c .before .before .before .before .before .before .before in
     let st = k .before .before .before .before .before .before .before in
     let q = st .args .q in
-    settle (st .args .a) (visits (cutsFrom q (st .args .s .now) (st .args .at) (st .args .left)) (cubeOf q (st .args .t2)))
-    ≡ leftFrom (visits (cutsFrom q (st .args .s .now) (k .skip .result .at + q) (k .skip .result .left - 1))) (cutAt q (st .args .s .now) (k .skip .result .at)) (c .loop .have) (cubeOf q (c .loop .near))
+    settle (st .args .a) (visits (wholesAt q (st .args .s .now) (st .args .at) (st .args .left)) (cubeOf q (st .args .t2)))
+    ≡ leftFrom (visits (wholesAt q (st .args .s .now) (k .skip .result .at + q) (k .skip .result .left - 1))) (wholeAt q (st .args .s .now) (k .skip .result .at)) (c .loop .have) (cubeOf q (c .loop .near))
 begun t c =
     let k = c .before .before .before .before .before .before .before in
     let sp = k .before .before .before in
@@ -104,7 +105,7 @@ turned : (t : ℕ) (c : visit-lts.After-opened2 (given t) (visit-at t) visit.Pos
     let at = g .before .before .before .before .before .before .before .before .before in
     let k = at .before .before .before .before .before .before .before in
     let st = k .before .before .before .before .before .before .before in
-    c .opened2 .result ≡ firstOpen (cubeOf (st .args .q) (g .give2 .result)) (cutAt (st .args .q) (st .args .s .now) (k .skip .result .at))
+    c .opened2 .result ≡ firstOpen (cubeOf (st .args .q) (g .give2 .result)) (wholeAt (st .args .q) (st .args .s .now) (k .skip .result .at))
 turned t c =
     let g = c .before .before .before in
     let at = g .before .before .before .before .before .before .before .before .before in

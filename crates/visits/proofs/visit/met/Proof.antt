@@ -3,7 +3,7 @@ use mathlib.Core.Path.{ap, _∙_}
 use lib.ListN.{length}
 use Rattle.model.specs.Cube.{shares}
 use Rattle.format.specs.Bytes.{codes}
-use Rattle.visits.proofs.Cuts.{part-cut}
+use Rattle.cube.proofs.Wholes.{whole-part}
 use borrow.Author.Needs.{needs}
 use Rattle.visits.proofs.visit.met.Statement.{statement}
 use Rattle.visits.proofs.visit.met.Tie as tie
@@ -26,7 +26,7 @@ meets-requires c κs = search needs
 returns : tie.Need-returns
 returns c =
     let st = c .before .before .before .before in
-    c .meets .ensures ∙ ap (shares (codes (st .args .piece .now))) (part-cut (st .args .s .now) (st .args .cut) (length (st .args .piece .now)))
+    c .meets .ensures ∙ ap (shares (codes (st .args .piece .now))) (whole-part (length (st .args .piece .now)) (st .args .s .now) (st .args .cut))
 
 pub met-spec : {M : Type 1} → statement M
 met-spec =

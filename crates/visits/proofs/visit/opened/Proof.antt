@@ -2,8 +2,8 @@
 use mathlib.Core.Path.{ap, _∙_}
 use lib.ListN.{length}
 use Rattle.format.specs.Bytes.{codes}
+use Rattle.cube.proofs.Wholes.{whole-part, part-length}
 use Rattle.visits.specs.Opening.{firstOpen}
-use Rattle.visits.proofs.Cuts.{part-cut, part-length}
 use borrow.Author.Needs.{needs}
 use Rattle.visits.proofs.visit.opened.Statement.{statement}
 use Rattle.visits.proofs.visit.opened.Tie as tie
@@ -23,15 +23,15 @@ part-next-open-end c = search needs
 next-open-requires : tie.Need-next-open-requires
 next-open-requires c κs =
     let st = c .before .before .before in (
-      part-length (st .args .s .now) (st .args .cut) (length (st .args .near .now)) (st .pre .1),
+      part-length (length (st .args .near .now)) (st .args .s .now) (st .args .cut) (st .pre .1),
       st .pre .0,
-      rw (part-cut (st .args .s .now) (st .args .cut) (length (st .args .near .now))) (st .pre .2),
+      rw (whole-part (length (st .args .near .now)) (st .args .s .now) (st .args .cut)) (st .pre .2),
     )
 
 returns : tie.Need-returns
 returns c =
     let st = c .before .before .before .before in
-    c .next-open .ensures ∙ ap (firstOpen (codes (st .args .near .now))) (part-cut (st .args .s .now) (st .args .cut) (length (st .args .near .now)))
+    c .next-open .ensures ∙ ap (firstOpen (codes (st .args .near .now))) (whole-part (length (st .args .near .now)) (st .args .s .now) (st .args .cut))
 
 pub opened-spec : {M : Type 1} → statement M
 opened-spec =

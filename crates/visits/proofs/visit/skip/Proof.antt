@@ -5,7 +5,7 @@ use mathlib.Core.Path.{_≡_, sym, _∙_}
 use lib.ListN.{length}
 use Rattle.model.specs.Walk.{visit}
 use Rattle.format.specs.Bytes.{codes}
-use Rattle.visits.specs.Cuts.{cutsFrom}
+use Rattle.cube.specs.Whole.{wholesAt}
 use Rattle.visits.proofs.Cuts.{room, visit-pass}
 use borrow.Author.Needs.{needs}
 use Rattle.visits.proofs.visit.skip.Statement.{statement}
@@ -13,7 +13,7 @@ use Rattle.visits.proofs.visit.skip.Tie as tie
 
 abbrev Inv-loop : tie.InvT-loop
 Inv-loop piece s at left here₀ n₀ here n =
-    (here + n * length piece ≤ length s) × (n ≤ left) × (visit (cutsFrom (length piece) s at left) (codes piece) ≡ visit (cutsFrom (length piece) s here n) (codes piece))
+    (here + n * length piece ≤ length s) × (n ≤ left) × (visit (wholesAt (length piece) s at left) (codes piece) ≡ visit (wholesAt (length piece) s here n) (codes piece))
 
 abbrev μ-loop : tie.MeasureT-loop
 μ-loop piece s at left here₀ n₀ here n = n

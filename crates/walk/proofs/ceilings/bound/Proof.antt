@@ -6,7 +6,7 @@ use mathlib.Core.Path.{_≡_, refl}
 use lib.ListN.{length}
 use Rattle.model.specs.Ceiling.{ceilingFrom, capped}
 use Rattle.format.specs.Bytes.{codes}
-use Rattle.visits.specs.Cuts.{cutsFrom}
+use Rattle.cube.specs.Whole.{wholesAt}
 use Rattle.walk.proofs.Frees.{bound-begun, bound-ended, back, back-turn, part-back-length, part-back, under}
 use borrow.Author.Needs.{needs}
 use Rattle.walk.proofs.ceilings.bound.Statement.{statement}
@@ -15,7 +15,7 @@ use Rattle.walk.proofs.ceilings.bound.Tie as tie
 abbrev Inv-loop : tie.InvT-loop
 Inv-loop base s at left n₀ k₀ end₀ n k end =
     (k ≤ left) × (length base ≤ 80) × (at + k * length base ≡ end) × (end ≤ length s)
-    × (n ≡ capped (ceilingFrom (codes base) (cutsFrom (length base) s end (left - k))))
+    × (n ≡ capped (ceilingFrom (codes base) (wholesAt (length base) s end (left - k))))
 
 abbrev μ-loop : tie.MeasureT-loop
 μ-loop base s at left n₀ k₀ end₀ n k end = k

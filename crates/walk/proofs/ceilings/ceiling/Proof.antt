@@ -7,7 +7,7 @@ use lib.ListN.{length}
 use Rattle.answer.specs.Answer.{fault}
 use Rattle.format.specs.Told.{Told}
 use Rattle.format.proofs.Recording.{Record, record-of}
-use Rattle.visits.proofs.Cuts.{part-cut, part-length}
+use Rattle.cube.proofs.Wholes.{whole-part, part-length}
 use Rattle.walk.proofs.Recorded.{record-room, ceiling-zero, ceiling-above, ceiling-refused, ceiling-told}
 use borrow.Author.Needs.{needs}
 use Rattle.walk.proofs.ceilings.ceiling.Statement.{statement}
@@ -79,7 +79,7 @@ bound-requires c κs =
     let q = c .before .before .cube-len in
     let r = record-room (accepted (c .before .before .before)) in
     let h : 5 + q .result ≤ length (x .s .now) = omega (arith, r, q .ensures) in
-    rw (← part-length (x .s .now) 5 (q .result) h, q .ensures, c .count-at .ensures .0) (omega arith, omega (arith, r))
+    rw (← part-length (q .result) (x .s .now) 5 h, q .ensures, c .count-at .ensures .0) (omega arith, omega (arith, r))
 
 -- src/ceilings.rt:100:5
 counted-requires : tie.Need-counted-requires
@@ -92,7 +92,7 @@ returns-4 c =
     let x = a .before .before .before .before .before .args in
     let q = c .before .before .before .before .cube-len in
     let h : 5 + q .result ≤ length (x .s .now) = omega (arith, record-room (accepted a), q .ensures) in
-    let n = rw (part-cut (x .s .now) 5 (q .result), ← part-length (x .s .now) 5 (q .result) h, q .ensures, c .before .before .count-at .ensures .0) at (c .before .bound .ensures) in
+    let n = rw (whole-part (q .result) (x .s .now) 5, ← part-length (q .result) (x .s .now) 5 h, q .ensures, c .before .before .count-at .ensures .0) at (c .before .bound .ensures) in
     c .counted .ensures
     ∙ ap (λ (t : Told). t .answer)
     (ceiling-told (x .w) (x .s .now) (a .before .before .before .if1 .left) (a .before .before .if2 .left) (sym (a .before .difference-fault .ensures) ∙ a .if3 .left) (c .before .bound .result) n)

@@ -4,8 +4,8 @@ use native.Mathlib.Omega.{arith}
 use mathlib.Core.Path.{sym, ap, ap₂, _∙_}
 use lib.ListN.{take, drop, replicate}
 use Rattle.model.specs.Cube.{meet}
-use Rattle.visits.specs.Cuts.{cubeOf}
-use Rattle.visits.proofs.Cuts.{part-cut, part-length}
+use Rattle.cube.proofs.Wholes.{whole-part, part-length}
+use Rattle.cube.specs.Whole.{cubeOf}
 use Rattle.walk.proofs.Moved.{met-piece}
 use borrow.Author.Needs.{needs}
 use Rattle.walk.proofs.inclusion.meet_at.Statement.{statement}
@@ -49,8 +49,8 @@ returns c =
     let t = x .t .now in
     let at = x .at in
     ap (cubeOf q) (c .before .meet-into .ensures)
-    ∙ met-piece q (take (5 + q - 5) (drop 5 s)) (take (at + q - at) (drop at t)) (replicate 80 255) (sym (part-length s 5 q (omega arith))) (sym (part-length t at q (omega arith))) (omega arith)
-    ∙ ap₂ meet (part-cut s 5 q) (part-cut t at q)
+    ∙ met-piece q (take (5 + q - 5) (drop 5 s)) (take (at + q - at) (drop at t)) (replicate 80 255) (sym (part-length q s 5 (omega arith))) (sym (part-length q t at (omega arith))) (omega arith)
+    ∙ ap₂ meet (whole-part q s 5) (whole-part q t at)
 
 pub meet-at-spec : {M : Type 1} → statement M
 meet-at-spec =

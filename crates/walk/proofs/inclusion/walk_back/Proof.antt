@@ -2,10 +2,10 @@
 use mathlib.Core.Path.{_≡_, sym, ap, _∙_}
 use borrow.Author.Tests.{not-true, not-false}
 use Rattle.model.specs.Cube.{shares}
-use Rattle.visits.specs.Cuts.{cutAt}
+use Rattle.cube.proofs.Wholes.{whole-part}
+use Rattle.cube.specs.Whole.{wholeAt}
 use Rattle.walk.specs.Lent.{lent}
 use Rattle.visits.specs.Settle.{settle}
-use Rattle.visits.proofs.Cuts.{part-cut}
 use Rattle.visits.proofs.Walked.{walked-settles}
 use Rattle.walk.proofs.Restoring.{back-apart, back-met}
 use borrow.Author.Needs.{needs}
@@ -44,15 +44,15 @@ meets-requires c κs = search needs
 
 shared : (c : tie.After-meets) →
     let x = c .before .before .before .before .before .before .args in
-    c .meets .result ≡ shares (cutAt (x .q) (x .s .now) 5) (cutAt (x .q) (x .t .now) (x .at))
+    c .meets .result ≡ shares (wholeAt (x .q) (x .s .now) 5) (wholeAt (x .q) (x .t .now) (x .at))
 shared c =
     let x = c .before .before .before .before .before .before .args in
-    rw (part-cut (x .s .now) 5 (x .q), part-cut (x .t .now) (x .at) (x .q)) at (c .meets .ensures)
+    rw (whole-part (x .q) (x .s .now) 5, whole-part (x .q) (x .t .now) (x .at)) at (c .meets .ensures)
 
 returns : tie.Need-returns
 returns c =
     let x = c .before .before .before .before .before .before .before .args in
-    back-apart (lent (x .q) (x .s .now)) (cutAt (x .q) (x .t .now) (x .at)) (sym (shared (c .before)) ∙ not-true _ (c .if1 .taken)) (x .a)
+    back-apart (lent (x .q) (x .s .now)) (wholeAt (x .q) (x .t .now) (x .at)) (sym (shared (c .before)) ∙ not-true _ (c .if1 .taken)) (x .a)
 
 count-at-requires : tie.Need-count-at-requires
 count-at-requires c κs = search needs
@@ -69,7 +69,7 @@ returns-2 c =
     let said = c .walk .ensures
     ∙ walked-settles (x .q) (met .result) (x .s .now) _ _ (x .a) (search needs, rw n (search needs), rw n (search needs), search needs) in
     rw (n, met .ensures) at said
-    ∙ ap (settle (x .a)) (sym (back-met (lent (x .q) (x .s .now)) (cutAt (x .q) (x .t .now) (x .at)) (sym (shared m) ∙ not-false _ (c .before .before .if1 .left))))
+    ∙ ap (settle (x .a)) (sym (back-met (lent (x .q) (x .s .now)) (wholeAt (x .q) (x .t .now) (x .at)) (sym (shared m) ∙ not-false _ (c .before .before .if1 .left))))
 
 pub walk-back-spec : {M : Type 1} → statement M
 walk-back-spec =

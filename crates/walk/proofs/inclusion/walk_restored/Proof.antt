@@ -6,7 +6,7 @@ use mathlib.Core.Path.{_≡_, refl, sym, ap, _∙_}
 use lib.ListN.{length}
 use Rattle.model.specs.Algebra.{restored}
 use Rattle.model.specs.Walk.{next, walkRegion}
-use Rattle.visits.specs.Cuts.{cutAt, cutsFrom}
+use Rattle.cube.specs.Whole.{wholeAt, wholesAt}
 use Rattle.walk.specs.Lent.{Whole, lent, walkBack}
 use Rattle.visits.specs.Settle.{settle, view}
 use Rattle.visits.proofs.Cuts.{room}
@@ -20,7 +20,7 @@ use Rattle.walk.proofs.inclusion.walk_restored.Tie as tie
 abbrev Inv-loop : tie.InvT-loop
 Inv-loop q s t have₀ at₀ left₀ have at left =
     Whole q s × (at + left * q ≤ length t) × (have .left + have .spent < 2 ^ 32)
-    × (settle have₀ (walkRegion (restored (lent q s) (lent q t .cuts))) ≡ settle have (walkRegion (restored (lent q s) (cutsFrom q t at left))))
+    × (settle have₀ (walkRegion (restored (lent q s) (lent q t .cuts))) ≡ settle have (walkRegion (restored (lent q s) (wholesAt q t at left))))
 
 abbrev μ-loop : tie.MeasureT-loop
 μ-loop q s t have₀ at₀ left₀ have at left = left
@@ -49,7 +49,7 @@ begun : (c : tie.In-loop Inv-loop μ-loop) →
     let l = c .before .loop in
     let a = lent (x .q) (x .s .now) in
     settle (x .a) (walkRegion (restored a (lent (x .q) (x .t .now) .cuts)))
-    ≡ settle (l .have) (next (walkBack a (cutAt (x .q) (x .t .now) (l .at))) (walkRegion (restored a (cutsFrom (x .q) (x .t .now) (l .at + x .q) (l .left - 1)))))
+    ≡ settle (l .have) (next (walkBack a (wholeAt (x .q) (x .t .now) (l .at))) (walkRegion (restored a (wholesAt (x .q) (x .t .now) (l .at + x .q) (l .left - 1)))))
 begun c =
     let x = c .before .before .before .before .before .args in
     let l = c .before .loop in

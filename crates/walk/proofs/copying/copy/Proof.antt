@@ -1,4 +1,4 @@
--- `walk::inclusion::copy` meets its contract. The loop's invariant: the first i bytes are copied. Assumes nothing.
+-- `walk::copying::copy` meets its contract. The loop's invariant: the first i bytes are copied. Assumes nothing.
 use Prim.Native.Nat.{_+_, _-_, _≤_}
 use native.Mathlib.Omega.{arith}
 use mathlib.Core.Path.{_≡_}
@@ -6,8 +6,8 @@ use lib.ListN.{length}
 use Rattle.walk.specs.Lent.{Copied}
 use Rattle.walk.proofs.Moved.{copied-none, copied-more}
 use borrow.Author.Needs.{needs}
-use Rattle.walk.proofs.inclusion.copy.Statement.{statement}
-use Rattle.walk.proofs.inclusion.copy.Tie as tie
+use Rattle.walk.proofs.copying.copy.Statement.{statement}
+use Rattle.walk.proofs.copying.copy.Tie as tie
 
 abbrev Inv-loop : tie.InvT-loop
 Inv-loop s at n out₀ to i₀ out i =
