@@ -20,6 +20,8 @@ pub use pair::lies_in;
 pub use pair::meet_into;
 pub use pair::meets;
 pub use size::WIDEST;
+pub use size::WIDEST_CUBE;
+pub use size::WIDEST_HEADER;
 pub use size::cube_len;
 pub use size::header_len;
 pub use table::code_zero;

@@ -6,6 +6,11 @@ ghost use Rattle.format.specs.Bytes.{headerLen, cubeLen};
 // The most positions of a header.
 pub const WIDEST: usize = 320;
 
+// The bytes of the widest cube and of the widest header.
+pub const WIDEST_CUBE: usize = (WIDEST + 3) / 4;
+
+pub const WIDEST_HEADER: usize = (WIDEST + 7) / 8;
+
 // The bytes of a cube of w positions.
 pub fn cube_len(w: usize) -> usize
     ensures { λ r. ⌜ r ≡ cubeLen w ⌝ }

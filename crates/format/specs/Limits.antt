@@ -1,15 +1,22 @@
 -- The limits and the kinds of records, each named once.
 --   widest            == the most positions of a header
+--   widestCube, widestHeader    == the bytes of the widest cube and of the widest header
 --   mostCuts          == the most cuts of a difference
 --   mostDifferences   == the most differences of a region
 --   mostInput         == the most bytes that the question program reads
 --   widthKind, differenceKind   == the kinds of records
 -- Assumes nothing: these are definitions.
-use Prim.Native.Nat.{ℕ}
+use Prim.Native.Nat.{ℕ, _+_, _/_}
 
 -- "A header is W bits, W from 1 to 320 (an IPv6 header is 320)."
 abbrev pub widest : ℕ
 widest = 320
+
+abbrev pub widestCube : ℕ
+widestCube = (widest + 3) / 4
+
+abbrev pub widestHeader : ℕ
+widestHeader = (widest + 7) / 8
 
 -- "A difference is one base cube and 0 to 64 cuts."
 abbrev pub mostCuts : ℕ
