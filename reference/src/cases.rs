@@ -14,6 +14,7 @@ pub fn all() -> Vec<Case> {
     let readings = [
         parts(),
         record_order(),
+        membership_order(),
         kind_order(),
         whole_file(),
         call_order(),
@@ -70,9 +71,23 @@ fn record_order() -> Vec<Case> {
     ]
 }
 
+/// The same faults of a record, found by membership.
+fn membership_order() -> Vec<Case> {
+    vec![
+        case("A4", format!("diff_member 4 {}00 00", r("****", &[])), "17 1 0 0 0 -"),
+        case("A6", "diff_member 4 030002004100 00", "18 1 0 0 0 -"),
+        case("A6b", "diff_member 4 0100 00", "15 1 0 0 0 -"),
+        case("A6b", "diff_member 4 010002 00", "17 1 0 0 0 -"),
+        case("A6b", "diff_member 4 02000300 00", "16 1 0 0 0 -"),
+        case("A6c", "diff_member 3 0500020001FE0F 00", "14 1 0 0 0 -"),
+        case("A7", format!("diff_member 4 {} 00", w1(4)), "16 1 0 0 0 -"),
+    ]
+}
+
 /// A kind out of its place, and the 257th record.
 fn kind_order() -> Vec<Case> {
     let full = full();
+    let more = full.clone() + &r("****", &[]);
     vec![
         case("A7", format!("ceiling 4 {}", w1(4)), "16 1 0 0 0 -"),
         case("A7", format!("region_tidy {}02000100 99", w1(4)), "16 1 6 0 0 -"),
@@ -82,6 +97,8 @@ fn kind_order() -> Vec<Case> {
         case("A8", format!("region_tidy {full}02000100 9999"), "16 1 1542 0 0 -"),
         case("A8", format!("region_tidy {full}02000200 9999"), "19 1 1542 0 0 -"),
         case("A8", format!("region_tidy {full}09000200 9999"), "15 1 1542 0 0 -"),
+        case("A8", format!("region_member {more} 00"), "19 1 1542 0 0 -"),
+        case("A8", format!("region_member {full}0400010000FF 00"), "16 1 1542 0 0 -"),
     ]
 }
 
@@ -109,6 +126,7 @@ fn call_order() -> Vec<Case> {
     vec![
         case("A9", format!("cube_meet 4 {one} {} 0", c("0***")), "2 0 0 0 0 -"),
         case("A9", format!("cube_meet 4 {one} {} 0", c("*0**")), "22 0 0 0 0 -"),
+        case("A9", format!("cube_meet 4 {one} {} 1", c("*0**")), "0 0 0 0 1 9F"),
         case("A10", format!("region_empty {} 0 0", w1(4)), "22 0 0 0 0 -"),
         case("A10", format!("diff_empty 4 {covered} 9 0"), "22 0 0 0 0 -"),
         case("A10", format!("diff_empty 4 {base} 0 0"), "22 0 0 0 0 -"),
@@ -198,6 +216,7 @@ fn views() -> Vec<Case> {
         case("A24", format!("wider 4 {same} {same}"), format!("1 0 0 0 0 {same}")),
         case("A24", neither, "2 0 0 0 0 -"),
         case("A25", format!("view {one} 0 1"), "23 0 0 0 0 - 0"),
+        case("A25", format!("view {one} 1 0"), "23 0 0 0 0 - 0"),
     ]
 }
 
@@ -259,11 +278,15 @@ fn proved() -> Vec<Case> {
         case("P2", "prefix 3 0 3 3 A0 1", "0 0 0 0 1 9B"),
         case("P2", "cube_meet 3 9B FF 1", "0 0 0 0 1 9B"),
         case("P3", "cube_in 2 50 FF", "14 1 0 0 0 -"),
+        case("P4", format!("diff_member 4 {p4} {}", h("1000")), "2 0 0 0 0 -"),
+        case("P4", format!("diff_member 4 {p4} {}", h("0000")), "1 0 0 0 0 -"),
+        case("P4", format!("diff_empty 4 {p4} 9 1"), "2 0 0 2 1 00"),
         case("P4", format!("diff_empty 4 {p4} 99 1"), "2 0 0 2 1 00"),
         case("P4", format!("ceiling 4 {p4}"), "0 0 0 3 0 -"),
         case("P5", format!("diff_empty 2 {p5} 99 1"), "1 0 0 2 0 -"),
         case("P5", format!("ceiling 2 {p5}"), "0 0 0 3 0 -"),
         case("P6", format!("diff_empty 2 {p5} 1 1"), "3 0 0 1 0 -"),
+        case("P7", format!("diff_empty 2 {p7} 9 1"), "2 0 0 3 1 C0"),
         case("P7", format!("diff_empty 2 {p7} 99 1"), "2 0 0 3 1 C0"),
         case("P7", format!("ceiling 2 {p7}"), "0 0 0 15 0 -"),
     ]
@@ -304,6 +327,7 @@ fn limits() -> Vec<Case> {
         case("count 64", format!("diff_empty 4 {most} 99 1"), "2 0 0 2 1 00"),
         case("count 64", file, tidied),
         case("count 65", format!("diff_empty 4 {more} 99 1"), "18 1 0 0 0 -"),
+        case("256 differences", format!("region_member {} 00", full()), "1 0 0 0 0 -"),
     ]
 }
 

@@ -1,4 +1,7 @@
 //! The fixed cases: every line of the readings, the document's figures and its slips.
+//! The gate asks the desk all of them first, and holds it to the reference's answers.
+
+use std::fs;
 
 use reference::answer::Answer;
 use reference::cases;
@@ -27,6 +30,34 @@ fn every_source_is_there() {
     for source in readings.chain(lettered).chain(figures) {
         assert!(sources.contains(&source.as_str()), "{source}");
     }
+}
+
+/// A file of the desk's folder.
+fn desks(name: &str) -> Vec<u8> {
+    let path = format!("{}/../crates/desk/{name}", env!("CARGO_MANIFEST_DIR"));
+    fs::read(&path).unwrap_or_else(|error| panic!("{path}: {error}"))
+}
+
+#[test]
+fn the_gate_asks_the_desk_every_case() {
+    let questions = desks("stdin");
+    let mut lines = questions.split(|&character| character == b'\n');
+    for case in cases::all() {
+        let asked = String::from_utf8_lossy(lines.next().unwrap_or_default());
+        assert_eq!(asked, case.question, "{}", case.source);
+    }
+}
+
+#[test]
+fn the_gate_holds_the_desk_to_these_answers() {
+    let mut answers = Vec::new();
+    desk::answer_all(desks("stdin").as_slice(), &mut answers).unwrap();
+    let answers = String::from_utf8(answers).unwrap();
+    let held = String::from_utf8(desks("stdout")).unwrap();
+    for (i, (right, held)) in answers.lines().zip(held.lines()).enumerate() {
+        assert_eq!(held, right, "line {}", i + 1);
+    }
+    assert_eq!(held.lines().count(), answers.lines().count());
 }
 
 #[test]

@@ -18,10 +18,11 @@ use Rattle.model.specs.Difference.{Difference, Region}
 use Rattle.format.specs.Limits.{mostCuts, mostDifferences}
 use Rattle.format.specs.Records.{differenceBytes, differencesBytes}
 use Rattle.format.specs.Told.{anyLong}
-use Rattle.algebra.specs.Lay.{laid}
+use Rattle.cube.specs.Lay.{laid}
+use Rattle.region.specs.Writing.{longestRecord}
 use Rattle.algebra.specs.Totals.{Counted, Adds}
 use Rattle.algebra.specs.declared.run.Totals.{Totals}
-use Rattle.algebra.proofs.Laying.{over-more, length-over}
+use Rattle.cube.proofs.Laying.{over-more, length-over}
 
 pub long-append : (r s : Region) → anyLong (r ++ s) ≡ anyLong r || anyLong s
 long-append [] s = refl
@@ -67,7 +68,7 @@ module _ (q : ℕ) (d : Difference) (out : List ℕ) (sum : Totals) (short : sum
         }
 
     pub add-more : sum .count ≤ mostDifferences → (end : ℕ) (new : List ℕ) → end ≡ sum .size + length (differenceBytes (4 * q) d)
-        → length (differenceBytes (4 * q) d) ≤ 5205 → (end ≤ length out → new ≡ laid out (sum .size) (differenceBytes (4 * q) d))
+        → length (differenceBytes (4 * q) d) ≤ longestRecord → (end ≤ length out → new ≡ laid out (sum .size) (differenceBytes (4 * q) d))
         → Adds q (d ∷ []) out sum new (record { long = false; count = sum .count + 1; size = end })
     add-more h end new e l put done old c =
         let n : length done ≤ mostDifferences = omega (arith, simp length-take at (c .count short)) in

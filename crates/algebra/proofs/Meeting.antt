@@ -15,8 +15,8 @@ use Rattle.cube.specs.Pair.{andBytes, andInto}
 use Rattle.cube.proofs.Codes.{codes-and, length-and}
 use Rattle.cube.proofs.Pairs.{into-over}
 use Rattle.cube.specs.Whole.{cubeOf, wholeAt}
-use Rattle.algebra.specs.Lay.{laid}
-use Rattle.algebra.proofs.Laying.{tail-back}
+use Rattle.cube.specs.Lay.{laid}
+use Rattle.cube.proofs.Laying.{tail-back}
 
 module _ (base s : List ℕ) (at : ℕ) (fits : at + length base ≤ length s) where
   as-long : length base ≡ length (take (length base) (drop at s))

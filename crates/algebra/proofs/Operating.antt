@@ -1,132 +1,122 @@
 -- What the pairs of each operation make together, over differences of whole bytes. Assumes nothing.
+--   wholeThere q s at == the difference of the record at an offset
+--   wholeRegion q s a == the region of the records from a on
+--   tidy-stops, less-turn    where tidying stops; a stop of subtraction more
 --   tidy-total        the region tidied
 --   intersect-total   the intersections of two regions, tidied
 --   less-total        the subtractions of a single difference from a region, tidied
-use Prim.Native.Nat.{ℕ, zero, suc, _+_, _-_, _*_, _≤_, _<_}
+use Prim.Native.Nat.{ℕ, zero, suc, _+_, _*_, _≤_, _<_}
 use native.Mathlib.Omega.{arith}
 use mathlib.Core.Path.{_≡_, refl, sym, ap, _∙_}
 use mathlib.Core.List.{List, [], _∷_, _++_, map, append-nil}
 use mathlib.Core.Bool.{Bool, true, false, cond}
-use lib.Dec.{eqb, leb}
-use borrow.Author.Tests.{ne-eqb}
+use borrow.Author.Tests.{eq-eqb, ne-eqb}
 use lib.ListN.{length}
 use Rattle.model.specs.Cube.{Cube, meet, shares}
 use Rattle.model.specs.Difference.{Difference, less, Region}
-use Rattle.model.specs.Tidy.{tidyFrom, tidy, each, tidyRegion}
+use Rattle.model.specs.Tidy.{tidy, each, tidyRegion}
 use Rattle.model.specs.Algebra.{intersection, intersections, restored, subtraction, subtractions}
 use Rattle.model.proofs.Tidying.{each-append}
-use Rattle.format.specs.Records.{countAt, nextAt}
-use Rattle.cube.specs.Whole.{wholeAt, wholesAt, wholeDifference}
-use Rattle.region.specs.Ahead.{aheadBy, ahead}
+use Rattle.cube.specs.Whole.{wholeAt, wholesAt}
+use Rattle.region.specs.declared.front.Front.{Front}
+use Rattle.region.specs.Front.{frontAt, wholeDifference}
+use Rattle.region.specs.Ahead.{ahead}
+use Rattle.region.proofs.Strides.{steps-end, steps-turn}
 use Rattle.algebra.specs.Stops.{stopAt, basesOf}
-use Rattle.algebra.specs.Totals.{stepsBy, stops, gather, made, total}
-use Rattle.algebra.specs.declared.stop.Stop.{Stop}
+use Rattle.algebra.specs.Totals.{stops, made, total}
 use Rattle.algebra.specs.declared.stop.Operation.the-variants.{Tidy, Intersect, Less}
-use Rattle.algebra.proofs.Running.{steps-end, steps-turn, stop-on}
+use Rattle.algebra.proofs.Running.{stop-on, less-next}
+
+abbrev pub wholeThere : ℕ → List ℕ → ℕ → Difference
+wholeThere q s at = wholeDifference q s (frontAt s at)
+
+abbrev pub wholeRegion : ℕ → List ℕ → ℕ → Region
+wholeRegion q s a = map (wholeThere q s) (ahead s a)
 
 -- what is made and tidied for one after another is tidied as a whole
-gather-each : (f : ℕ → Region) (g : Difference → Region) (d : ℕ → Difference) → ((x : ℕ) → f x ≡ tidyRegion (g (d x))) → (xs : List ℕ)
-    → gather f xs ≡ tidyRegion (each g (map d xs))
-gather-each f g d e [] = refl
-gather-each f g d e (x ∷ xs) = rw (e x, gather-each f g d e xs) (sym (each-append tidy (g (d x)) (each g (map d xs))))
+each-tidied : (f : ℕ → Region) (g : Difference → Region) (d : ℕ → Difference) → ((x : ℕ) → f x ≡ tidyRegion (g (d x))) → (xs : List ℕ)
+    → each f xs ≡ tidyRegion (each g (map d xs))
+each-tidied f g d e [] = refl
+each-tidied f g d e (x ∷ xs) = rw (e x, each-tidied f g d e xs) (sym (each-append tidy (g (d x)) (each g (map d xs))))
 
 each-one : (r : Region) → each (λ d. d ∷ []) r ≡ r
 each-one [] = refl
 each-one (d ∷ r) = ap (λ (z : Region). d ∷ z) (each-one r)
 
+-- a piece, or none
+piece-or : (b : Bool) (c : Cube) (cuts : List Cube) → tidyRegion (map (λ x. less x cuts) (cond b (c ∷ []) [])) ≡ tidyRegion (cond b (less c cuts ∷ []) [])
+piece-or true c cuts = refl
+piece-or false c cuts = refl
+
+back-append : (b : Bool) (d : Difference) (r : Region) → tidyRegion (cond b (d ∷ []) []) ++ tidyRegion r ≡ tidyRegion (cond b (d ∷ r) r)
+back-append true d r = rw (append-nil (tidy d))
+back-append false d r = refl
+
 module _ (q : ℕ) (s t : List ℕ) where
   -- tidying
-  tidy-made : (a x : ℕ) → made Tidy q s t a x ≡ tidy (wholeDifference q s a)
+  tidy-made : (f : Front) (x : ℕ) → made Tidy q s t f x ≡ tidy (wholeDifference q s f)
   unfolding made stopAt basesOf wholesAt
-  tidy-made a x = simp append-nil refl
+  tidy-made f x = simp append-nil refl
 
   pub tidy-stops : 0 < length t → stops Tidy q t 0 ≡ 0 ∷ []
   unfolding stopAt
   tidy-stops h =
       steps-turn (λ y. length t) (length t) (λ y l. l) 0 h ∙ ap (λ (xs : List ℕ). 0 ∷ xs) (steps-end (λ y. length t) (length t) (length t) (omega arith))
 
-  pub tidy-total : (a : ℕ) → 0 < length t → total Tidy q s a t 0 ≡ tidyRegion (map (wholeDifference q s) (ahead s a))
+  pub tidy-total : (a : ℕ) → 0 < length t → total Tidy q s a t 0 ≡ tidyRegion (wholeRegion q s a)
   unfolding total
   tidy-total a h =
       rw (tidy-stops h)
-      (gather-each (λ b. made Tidy q s t b 0 ++ []) (λ d. d ∷ []) (wholeDifference q s) (λ b. ap (λ (r : Region). r ++ []) (tidy-made b 0)) (ahead s a))
-      ∙ ap tidyRegion (each-one (map (wholeDifference q s) (ahead s a)))
+      (each-tidied (λ b. made Tidy q s t (frontAt s b) 0 ++ []) (λ d. d ∷ []) (wholeThere q s)
+      (λ b. ap (λ (r : Region). r ++ []) (tidy-made (frontAt s b) 0)) (ahead s a))
+      ∙ ap tidyRegion (each-one (wholeRegion q s a))
 
   -- intersection
-  intersect-made : (a x : ℕ) → made Intersect q s t a x ≡ tidyRegion (intersection (wholeDifference q s a) (wholeDifference q t x))
+  intersect-made : (f : Front) (x : ℕ) → made Intersect q s t f x ≡ tidyRegion (intersection (wholeDifference q s f) (wholeThere q t x))
   unfolding made stopAt basesOf intersection
-  intersect-made a x = go (shares (wholeAt q s (a + 5)) (wholeAt q t (x + 5)))
-    where
-      cuts : List Cube
-      cuts = wholesAt q s (a + 5 + q) (countAt s a) ++ wholesAt q t (x + 5 + q) (countAt t x)
+  intersect-made f x =
+      let a = wholeDifference q s f in
+      let b = wholeThere q t x in
+      piece-or (shares (a .base) (b .base)) (meet (a .base) (b .base)) (a .cuts ++ b .cuts)
 
-      both : Cube
-      both = meet (wholeAt q s (a + 5)) (wholeAt q t (x + 5))
-
-      go : (b : Bool) → tidyRegion (map (λ c. less c cuts) (cond b (both ∷ []) [])) ≡ tidyRegion (cond b (less both cuts ∷ []) [])
-      go true = refl
-      go false = refl
-
-  same-steps : (n x : ℕ) → stepsBy n (λ y. stopAt Intersect q t y .next) (length t) x ≡ aheadBy n t x
-  unfolding stepsBy aheadBy stopAt
-  same-steps zero x = refl
-  same-steps (suc n) x = ap (λ (xs : List ℕ). cond (leb (length t) x) [] (x ∷ xs)) (same-steps n (nextAt t x))
-
-  pub intersect-stops : (x : ℕ) → stops Intersect q t x ≡ ahead t x
-  intersect-stops x = same-steps (length t - x) x
-
-  pub intersect-total : (a x : ℕ) → total Intersect q s a t x ≡ tidyRegion (intersections (map (wholeDifference q s) (ahead s a)) (map (wholeDifference q t) (ahead t x)))
-  unfolding total
+  pub intersect-total : (a x : ℕ) → total Intersect q s a t x ≡ tidyRegion (intersections (wholeRegion q s a) (wholeRegion q t x))
+  unfolding total stopAt
   intersect-total a x =
-      rw (intersect-stops x)
-      (gather-each (λ b. gather (made Intersect q s t b) (ahead t x)) (λ d. each (intersection d) (map (wholeDifference q t) (ahead t x))) (wholeDifference q s)
-      (λ b. gather-each (made Intersect q s t b) (intersection (wholeDifference q s b)) (wholeDifference q t) (intersect-made b) (ahead t x)) (ahead s a))
+      each-tidied (λ b. each (made Intersect q s t (frontAt s b)) (ahead t x)) (λ d. each (intersection d) (wholeRegion q t x)) (wholeThere q s)
+      (λ b. each-tidied (made Intersect q s t (frontAt s b)) (intersection (wholeThere q s b)) (wholeThere q t) (intersect-made (frontAt s b)) (ahead t x))
+      (ahead s a)
 
-  -- subtraction
-  less-base : (a : ℕ) → made Less q s t a 5 ≡ tidy (less (wholeAt q s (a + 5)) (wholesAt q s (a + 5 + q) (countAt s a) ++ (wholeAt q t 5 ∷ [])))
-  unfolding made stopAt basesOf wholesAt
-  less-base a = append-nil (tidyFrom (wholeAt q s (a + 5)) [] (wholesAt q s (a + 5 + q) (countAt s a) ++ (wholeAt q t 5 ∷ [])))
+  -- subtraction of a record whose base starts at b
+  module _ (b : ℕ) (some : 1 ≤ q) where
+    less-base : (f : Front) → made (Less b) q s t f b ≡ tidy (less (wholeAt q s (f .base)) (wholesAt q s (f .base + q) (f .cuts) ++ (wholeAt q t b ∷ [])))
+    unfolding made stopAt basesOf wholesAt
+    less-base f = rw (eq-eqb b b refl) (append-nil _)
 
-  less-cut : (a x : ℕ) → 5 < x
-      → made Less q s t a x ≡ tidyRegion (cond (shares (wholeAt q s (a + 5)) (wholeAt q t x)) (less (meet (wholeAt q s (a + 5)) (wholeAt q t x)) (wholesAt q s (a + 5 + q) (countAt s a)) ∷ []) [])
-  unfolding made stopAt basesOf wholesAt
-  less-cut a x h =
-      rw (ne-eqb x 5 (omega arith), append-nil (wholesAt q s (a + 5 + q) (countAt s a)))
-      (go (shares (wholeAt q s (a + 5)) (wholeAt q t x)) (meet (wholeAt q s (a + 5)) (wholeAt q t x)) (wholesAt q s (a + 5 + q) (countAt s a)))
-    where
-      go : (b : Bool) (both : Cube) (cuts : List Cube) → tidyRegion (map (λ c. less c cuts) (cond b (both ∷ []) [])) ≡ tidyRegion (cond b (less both cuts ∷ []) [])
-      go true both cuts = refl
-      go false both cuts = refl
+    less-cut : (f : Front) (x : ℕ) → b < x → let d = wholeDifference q s f in
+        made (Less b) q s t f x ≡ tidyRegion (cond (shares (d .base) (wholeAt q t x)) (less (meet (d .base) (wholeAt q t x)) (d .cuts) ∷ []) [])
+    unfolding made stopAt basesOf wholesAt
+    less-cut f x h =
+        let d = wholeDifference q s f in
+        rw (ne-eqb x b (omega arith), append-nil (d .cuts)) (piece-or (shares (d .base) (wholeAt q t x)) (meet (d .base) (wholeAt q t x)) (d .cuts))
 
-  less-next : (x : ℕ) → stopAt Less q t x .next ≡ x + q
-  unfolding stopAt
-  less-next x = go (eqb x 5)
-    where
-      go : (b : Bool) → cond {A = Stop} b (record { meets = false; cube = 0; from = 5; cuts = 1; next = x + q }) (record { meets = true; cube = x; from = 0; cuts = 0; next = x + q }) .next ≡ x + q
-      go true = refl
-      go false = refl
-
-  module _ (some : 1 ≤ q) where
-    pub less-turn : (x : ℕ) → x < length t → stops Less q t x ≡ x ∷ stops Less q t (x + q)
+    pub less-turn : (x : ℕ) → x < length t → stops (Less b) q t x ≡ x ∷ stops (Less b) q t (x + q)
     less-turn x h =
-        steps-turn (λ y. stopAt Less q t y .next) (length t) (stop-on Less q t some) x h ∙ ap (λ (y : ℕ). x ∷ stops Less q t y) (less-next x)
+        steps-turn (λ y. stopAt (Less b) q t y .next) (length t) (stop-on (Less b) q t some) x h
+        ∙ ap (λ (y : ℕ). x ∷ stops (Less b) q t y) (less-next b q t x)
 
-    back-append : (b : Bool) (d : Difference) (r : Region) → tidyRegion (cond b (d ∷ []) []) ++ tidyRegion r ≡ tidyRegion (cond b (d ∷ r) r)
-    back-append true d r = rw (append-nil (tidy d))
-    back-append false d r = refl
-
-    less-rest : (a n x : ℕ) → 5 < x → x + n * q ≡ length t
-        → gather (made Less q s t a) (stops Less q t x) ≡ tidyRegion (restored (wholeDifference q s a) (wholesAt q t x n))
+    less-rest : (f : Front) (n x : ℕ) → b < x → x + n * q ≡ length t
+        → each (made (Less b) q s t f) (stops (Less b) q t x) ≡ tidyRegion (restored (wholeDifference q s f) (wholesAt q t x n))
     unfolding restored wholesAt
-    less-rest a zero x h e = rw (steps-end (λ y. stopAt Less q t y .next) (length t) x (omega arith))
-    less-rest a (suc n) x h e =
-        rw (less-turn x (omega arith), less-cut a x h, less-rest a n (x + q) (omega arith) (omega arith))
-        (back-append (shares (wholeAt q s (a + 5)) (wholeAt q t x)) _ (restored (wholeDifference q s a) (wholesAt q t (x + q) n)))
+    less-rest f zero x h e = rw (steps-end (λ y. stopAt (Less b) q t y .next) (length t) x (omega arith))
+    less-rest f (suc n) x h e =
+        rw (less-turn x (omega arith), less-cut f x h, less-rest f n (x + q) (omega arith) (omega arith))
+        (back-append (shares (wholeAt q s (f .base)) (wholeAt q t x)) _ (restored (wholeDifference q s f) (wholesAt q t (x + q) n)))
 
-    pub less-total : (a : ℕ) → length t ≡ 5 + (countAt t 0 + 1) * q
-        → total Less q s a t 5 ≡ tidyRegion (subtractions (map (wholeDifference q s) (ahead s a)) (wholeDifference q t 0))
+    pub less-total : (a n : ℕ) → length t ≡ b + (n + 1) * q
+        → total (Less b) q s a t b ≡ tidyRegion (subtractions (wholeRegion q s a) (less (wholeAt q t b) (wholesAt q t (b + q) n)))
     unfolding total
-    less-total a e =
-        gather-each (λ b. gather (made Less q s t b) (stops Less q t 5)) (λ d. subtraction d (wholeDifference q t 0)) (wholeDifference q s)
-        (λ b. rw (less-turn 5 (omega arith), less-base b, less-rest b (countAt t 0) (5 + q) (omega arith) (omega arith)))
+    less-total a n e =
+        each-tidied (λ c. each (made (Less b) q s t (frontAt s c)) (stops (Less b) q t b))
+        (λ d. subtraction d (less (wholeAt q t b) (wholesAt q t (b + q) n))) (wholeThere q s)
+        (λ c. rw (less-turn b (omega arith), less-base (frontAt s c), less-rest (frontAt s c) n (b + q) (omega arith) (omega arith)))
         (ahead s a)

@@ -2,7 +2,6 @@
 --   cut-apart, cut-covered, cut-again, cut-more   what becomes of it: dropped, the difference omitted, dropped, or kept behind the others
 use Prim.Native.Nat.{ℕ, _+_, _-_, _*_, _≤_, _<_}
 use native.Mathlib.Nat.{mul-le-mul-right}
-use native.Mathlib.Numerals.{add-one}
 use native.Mathlib.Omega.{arith}
 use mathlib.Core.Path.{_≡_, ap, _∙_}
 use mathlib.Core.List.{List, [], _∷_, _++_}
@@ -13,17 +12,17 @@ use Rattle.model.specs.Tidy.{among, tidyFrom}
 use Rattle.format.specs.Bytes.{codes}
 use Rattle.cube.specs.Pair.{andBytes}
 use Rattle.cube.specs.Whole.{cubeOf, wholeAt, wholesAt}
-use Rattle.algebra.specs.Lay.{laid}
+use Rattle.cube.specs.Lay.{laid}
 use Rattle.algebra.specs.Tidied.{keptIn, onward, most, Taken}
 use Rattle.algebra.specs.declared.tidying.Made.{Made}
 use Rattle.algebra.specs.declared.tidying.Made.the-variants.{Omitted, Kept}
-use Rattle.algebra.proofs.Laying.{front-laid, here-laid}
-use Rattle.algebra.proofs.Wholes.{wholes-turn, wholes-none, wholes-more, wholes-front}
+use Rattle.cube.proofs.Laying.{front-laid, here-laid}
+use Rattle.cube.proofs.Wholes.{wholes-turn, wholes-none, wholes-more, wholes-front}
 use Rattle.algebra.proofs.Meeting.{met-codes, met-length}
 
 -- where the next cut goes that is kept
 abbrev pub slot : List ℕ → ℕ → ℕ
-slot base k = 5 + length base + k * length base
+slot base k = length base + k * length base
 
 -- the base, the next cut in s, and the k cuts kept in the buffer `old`
 module _ (base s old : List ℕ) (at k : ℕ) where
@@ -32,7 +31,7 @@ module _ (base s old : List ℕ) (at k : ℕ) where
   cut-apart e = record { goes = λ later. rw (← e); few = omega arith }
 
   -- the buffer `new`, with the cut met with the base behind those that are kept
-  module _ (fits : at + length base ≤ length s) (room : 5 + (k + 2) * length base ≤ length old) (meets : true ≡ shares (codes base) (wholeAt (length base) s at))
+  module _ (fits : at + length base ≤ length s) (room : (k + 2) * length base ≤ length old) (meets : true ≡ shares (codes base) (wholeAt (length base) s at))
       (new : List ℕ) (put : new ≡ laid old (slot base k) (andBytes base (take (length base) (drop at s)))) where
     size : length (andBytes base (take (length base) (drop at s))) ≡ length base
     size = met-length base s at fits
@@ -40,14 +39,16 @@ module _ (base s old : List ℕ) (at k : ℕ) where
     here : wholeAt (length base) new (slot base k) ≡ meet (codes base) (wholeAt (length base) s at)
     here =
         unfold wholeAt cubeOf in
-        rw put (ap codes (here-laid old (andBytes base (take (length base) (drop at s))) (slot base k) (omega (arith, size)) (length base) size) ∙ met-codes base s at fits)
+        let h = here-laid old (andBytes base (take (length base) (drop at s))) (slot base k) (omega (arith, size)) (length base) size in
+        rw put (ap codes h ∙ met-codes base s at fits)
 
     still : keptIn base new k ≡ keptIn base old k
     still =
-        wholes-front (length base) (slot base k) new old (5 + length base) k (omega arith)
+        wholes-front (length base) (slot base k) new old (length base) k (omega arith)
         (rw put (front-laid old (andBytes base (take (length base) (drop at s))) (slot base k) (omega (arith, size)) (slot base k) (omega arith)))
 
-    pub cut-covered : true ≡ same (wholeAt (length base) new (slot base k)) (codes base) → Taken base old k (wholeAt (length base) s at ∷ []) new Omitted (k + 1)
+    pub cut-covered : true ≡ same (wholeAt (length base) new (slot base k)) (codes base)
+        → Taken base old k (wholeAt (length base) s at ∷ []) new Omitted (k + 1)
     unfolding tidyFrom onward
     cut-covered e = record { goes = λ later. rw (← meets, ← here, ← e); few = omega arith }
 
@@ -62,15 +63,17 @@ module _ (base s old : List ℕ) (at k : ℕ) where
       unfolding tidyFrom onward
       cut-more e =
           record {
-            goes = λ later. rw (← meets, ← here, ← other, ← still, ← e, add-one k, wholes-more (length base) new (5 + length base) k);
+            goes = λ later. rw (← meets, ← here, ← other, ← still, ← e, wholes-more (length base) new (length base) k);
             few = omega arith;
           }
 
 -- the cuts cs, taken with k kept in `old`, come to the cuts ds, to be taken with j kept in `now`
 abbrev pub Goes : List ℕ → List ℕ → ℕ → List Cube → List ℕ → ℕ → List Cube → Type 0
-Goes base old k cs now j ds = (later : List Cube) → tidyFrom (codes base) (keptIn base old k) (cs ++ later) ≡ tidyFrom (codes base) (keptIn base now j) (ds ++ later)
+Goes base old k cs now j ds =
+    (later : List Cube) → tidyFrom (codes base) (keptIn base old k) (cs ++ later) ≡ tidyFrom (codes base) (keptIn base now j) (ds ++ later)
 
-module _ (base old : List ℕ) (k : ℕ) (cs : List Cube) (s now : List ℕ) (j next left : ℕ) (goes : Goes base old k cs now j (wholesAt (length base) s next left)) where
+module _ (base old : List ℕ) (k : ℕ) (cs : List Cube) (s now : List ℕ) (j next left : ℕ)
+    (goes : Goes base old k cs now j (wholesAt (length base) s next left)) where
   -- what the next cut comes to, before the others
   next-cut : (new : List ℕ) (m : Made) → 0 < left → Taken base now j (wholeAt (length base) s next ∷ []) new m (j + 1) → (later : List Cube)
       → tidyFrom (codes base) (keptIn base old k) (cs ++ later) ≡ onward base new m (wholesAt (length base) s (next + length base) (left - 1) ++ later)
@@ -95,5 +98,5 @@ pub kept-most : (m : Made) (i n : ℕ) → m ≡ Kept i → most m ≤ n → i �
 kept-most m i n e h = rw e at h
 
 -- a row that fits: fewer cubes fit too
-pub row-fits : (i n q l : ℕ) → i ≤ n → 5 + n * q ≤ l → 5 + i * q ≤ l
+pub row-fits : (i n q l : ℕ) → i ≤ n → n * q ≤ l → i * q ≤ l
 row-fits i n q l h f = omega (arith, mul-le-mul-right q h)

@@ -1,28 +1,10 @@
-// Whether cubes are the same, byte by byte.
+// Whether a cube is one of a row.
 ghost use mathlib.Core.Path.{_≡_};
 ghost use Prim.Native.Nat.{_+_, _*_, _≤_};
 ghost use lib.ListN.{length};
-ghost use Rattle.model.specs.Cube.{same};
 ghost use Rattle.model.specs.Tidy.{among};
-ghost use Rattle.format.specs.Bytes.{codes};
 ghost use Rattle.cube.specs.Whole.{wholeAt, wholesAt};
-
-// Whether two cubes are the same: looking stops at the first byte that differs.
-pub(crate) fn equal(a: &[u8], b: &[u8]) -> bool
-    ensures { λ r. ⌜ r ≡ same (codes (now (a .entry))) (codes (now (b .entry))) ⌝ }
-{
-    if a.len() != b.len() {
-        return false;
-    }
-    let mut i = 0;
-    while i < a.len() {
-        if a[i] != b[i] {
-            return false;
-        }
-        i += 1;
-    }
-    true
-}
+use cube::equal;
 
 // Whether the cube of q bytes at an offset is the same as one of n cubes from another offset on.
 pub(crate) fn one_of(s: &[u8], q: usize, at: usize, from: usize, n: usize) -> bool

@@ -1,10 +1,7 @@
-// What writes files: tidying, intersection, subtraction, prefix constraints and equality of fields.
+// What writes regions: tidying, intersection and subtraction.
 mod call;
-mod code;
 mod compare;
-mod field;
 mod piece;
-mod put;
 mod result;
 mod run;
 mod stop;
@@ -15,5 +12,3 @@ pub use call::diff_less;
 pub use call::region_intersect;
 pub use call::region_less;
 pub use call::region_tidy;
-pub use field::equal_fields;
-pub use field::prefix;

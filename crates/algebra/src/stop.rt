@@ -1,14 +1,13 @@
 // The stops of an operation in its second operand.
 ghost use mathlib.Core.Path.{_≡_};
-ghost use Rattle.algebra.specs.Stops.{stopAt, Stands};
-use region::count_at;
-use region::next_at;
+ghost use Rattle.algebra.specs.Stops.{stopAt, Room};
+use region::front_at;
 
-// What is done to the differences of the first operand.
+// What is done to the differences of the first operand; subtraction is given where the base of its single record starts.
 pub(crate) enum Operation {
     Tidy,
     Intersect,
-    Less,
+    Less(usize),
 }
 
 // What a stop adds to a difference of the first operand: a cube that the base is met with, where `meets` says so, and a stretch of cuts. Then
@@ -23,7 +22,7 @@ pub(crate) struct Stop {
 
 // The stop at an offset.
 pub(crate) fn stop_at(operation: Operation, q: usize, t: &[u8], x: usize) -> Stop
-    requires { ⌜ Stands operation q (now t) x ⌝ }
+    requires { ⌜ Room q (now t) (stopAt operation q (now t) x) ⌝ }
     ensures { λ r. ⌜ r ≡ stopAt operation q (now (t .entry)) x ⌝ }
 {
     match operation {
@@ -34,19 +33,22 @@ pub(crate) fn stop_at(operation: Operation, q: usize, t: &[u8], x: usize) -> Sto
             cuts: 0,
             next: t.len(),
         },
-        Operation::Intersect => Stop {
-            meets: true,
-            cube: x + 5,
-            from: x + 5 + q,
-            cuts: count_at(t, x),
-            next: next_at(t, x),
-        },
-        Operation::Less => {
-            if x == 5 {
+        Operation::Intersect => {
+            let front = front_at(t, x);
+            Stop {
+                meets: true,
+                cube: front.base,
+                from: front.base + q,
+                cuts: front.cuts,
+                next: front.next,
+            }
+        }
+        Operation::Less(base) => {
+            if x == base {
                 return Stop {
                     meets: false,
                     cube: 0,
-                    from: 5,
+                    from: x,
                     cuts: 1,
                     next: x + q,
                 };

@@ -1,13 +1,14 @@
-// Tidying one piece: its cuts are taken in order into a buffer that is laid out as the record to be written.
+// Tidying one piece: its cuts are taken in order into a buffer, behind the room for its base.
 ghost use mathlib.Core.Path.{_≡_};
 ghost use mathlib.Core.List.{[], _∷_};
 ghost use Prim.Native.Nat.{_+_, _*_, _≤_, _<_};
 ghost use lib.ListN.{length};
+ghost use Rattle.format.specs.Limits.{takenCuts};
 ghost use Rattle.format.specs.Bytes.{codes};
 ghost use Rattle.cube.specs.Whole.{wholeAt, wholesAt};
 ghost use Rattle.algebra.specs.Tidied.{Taken};
-use super::compare::equal;
 use super::compare::one_of;
+use cube::equal;
 
 // What becomes of a piece: the cuts kept so far, or that it is omitted.
 pub(crate) enum Made {
@@ -17,7 +18,7 @@ pub(crate) enum Made {
 
 // Takes the cut at an offset: the cuts kept stand in the buffer behind the base, and this one goes behind them if it is kept.
 fn take_cut(base: &[u8], s: &[u8], at: usize, buf: &mut [u8], kept: usize) -> Made
-    requires { ⌜ (at + length (now base) ≤ length (now s)) × (kept < 128) × (5 + (kept + 2) * length (now base) ≤ length (now buf)) ⌝ }
+    requires { ⌜ (at + length (now base) ≤ length (now s)) × (kept < takenCuts) × ((kept + 2) * length (now base) ≤ length (now buf)) ⌝ }
     ensures { λ r. ⌜ Taken (now (base .entry)) (now (buf .entry)) kept (wholeAt (length (now (base .entry))) (now (s .entry)) at ∷ []) (now (buf .exit)) r (kept + 1) ⌝ }
 {
     let q = base.len();
@@ -25,13 +26,12 @@ fn take_cut(base: &[u8], s: &[u8], at: usize, buf: &mut [u8], kept: usize) -> Ma
     if !cube::meets(base, &s[at..end]) {
         return Made::Kept(kept);
     }
-    let from = 5 + q;
-    let slot = from + kept * q;
+    let slot = q + kept * q;
     cube::meet_into(base, &s[at..end], &mut buf[slot..]);
     if equal(&buf[slot..slot + q], base) {
         return Made::Omitted;
     }
-    if one_of(buf, q, slot, from, kept) {
+    if one_of(buf, q, slot, q, kept) {
         return Made::Kept(kept);
     }
     Made::Kept(kept + 1)
@@ -46,7 +46,7 @@ pub(crate) fn take_cuts(
     buf: &mut [u8],
     kept: usize,
 ) -> Made
-    requires { ⌜ (at + n * length (now base) ≤ length (now s)) × (kept + n ≤ 128) × (5 + (kept + n + 1) * length (now base) ≤ length (now buf)) ⌝ }
+    requires { ⌜ (at + n * length (now base) ≤ length (now s)) × (kept + n ≤ takenCuts) × ((kept + n + 1) * length (now base) ≤ length (now buf)) ⌝ }
     ensures { λ r. ⌜ Taken (now (base .entry)) (now (buf .entry)) kept (wholesAt (length (now (base .entry))) (now (s .entry)) at n) (now (buf .exit)) r (kept + n) ⌝ }
 {
     let mut some = kept;

@@ -7,17 +7,18 @@ use native.Mathlib.Omega.{arith}
 use lib.ListN.{length}
 use denote.Ref.{RefT, now, ptr}
 use Rattle.model.specs.Cube.{meet, shares, within}
+use Rattle.answer.specs.declared.Answer.{Answer}
 use Rattle.answer.specs.Answer.{said, wrote}
-use Rattle.format.specs.Rows.{Rows, last, row, so}
+use Rattle.format.specs.Rows.{Rows, last, row, so, outcome}
 use Rattle.format.specs.Bytes.{Bytes, codes, readCube, writeCube}
-use Rattle.format.specs.Told.{Told, silent, yesOr, writing}
+use Rattle.format.specs.Told.{Told, silent, twoCubes, yesOr, writing}
 use Rattle.format.specs.Calls.{cube-meet, cube-in, Which, first, second, neither, wider, wider-number}
 use Rattle.format.proofs.Reached.{reached}
+use Rattle.format.proofs.Lending.{pair-refused, pair-passed, pair-lent}
 use Rattle.cube.specs.Pair.{liesIn, andBytes}
-use Rattle.cube.specs.Call.{pairFault, WiderIs}
+use Rattle.cube.specs.Call.{WiderIs}
 use Rattle.cube.proofs.Codes.{length-and}
 use Rattle.cube.proofs.Reading.{lent-clean, read-shares, read-lies, read-meet}
-use Rattle.cube.proofs.Refusals.{pair-off, pair-on, pair-clean}
 
 abbrev pub wroteBytes : ℕ → List ℕ → Told
 wroteBytes n bs = record { answer = wrote n; bytes = bs }
@@ -40,92 +41,92 @@ module _ (w : ℕ) (a b : List ℕ) where
       (row (so (within (readCube w a) (readCube w b))) second
       (last neither))
 
-  -- refused
-  module _ (h : pairFault w a b .number ≡ 0 → ⊥) where
-    pub in-refused : silent (pairFault w a b) ≡ cube-in w a b
+  -- refused, with r
+  module _ (r : Answer) (is : r ≡ outcome (twoCubes w a b)) (h : r .number ≡ 0 → ⊥) where
+    pub in-refused : silent r ≡ cube-in w a b
     unfolding cube-in
-    in-refused = pair-off w a b silent inRows h
+    in-refused = pair-refused w a b r is silent inRows h
 
-    pub number-refused : silent (pairFault w a b) ≡ wider-number w a b
+    pub number-refused : silent r ≡ wider-number w a b
     unfolding wider-number
-    number-refused = pair-off w a b silent numberRows h
+    number-refused = pair-refused w a b r is silent numberRows h
 
-    pub meet-refused : (room : ℕ) → silent (pairFault w a b) ≡ cube-meet w a b room
+    pub meet-refused : (room : ℕ) → silent r ≡ cube-meet w a b room
     unfolding cube-meet
-    meet-refused room = pair-off w a b silent (meetRows room) h
+    meet-refused room = pair-refused w a b r is silent (meetRows room) h
 
     pub wider-refused : neither ≡ wider w a b
     unfolding wider
-    wider-refused = pair-off w a b (λ _. neither) widerRows h
+    wider-refused = pair-refused w a b r is (λ _. neither) widerRows h
 
   -- accepted
-  module _ (h : pairFault w a b .number ≡ 0) where
+  module _ (r : Answer) (is : r ≡ outcome (twoCubes w a b)) (h : r .number ≡ 0) where
     pub one-size : length a ≡ length b
     one-size =
-        let p = pair-clean w a b h in
+        let p = pair-lent w a b r is h in
         lent-clean w a (p .0) .0 ∙ sym (lent-clean w b (p .1) .0)
 
     lies : liesIn a b ≡ within (readCube w a) (readCube w b)
     lies =
-        let p = pair-clean w a b h in
+        let p = pair-lent w a b r is h in
         let k = lent-clean w a (p .0) in
         let m = lent-clean w b (p .1) in
         read-lies w a b (k .0) (m .0) (k .1) (m .1)
 
     holds : liesIn b a ≡ within (readCube w b) (readCube w a)
     holds =
-        let p = pair-clean w a b h in
+        let p = pair-lent w a b r is h in
         let k = lent-clean w a (p .0) in
         let m = lent-clean w b (p .1) in
         read-lies w b a (m .0) (k .0) (m .1) (k .1)
 
     pub in-yes : liesIn a b ≡ true → silent (said 1) ≡ cube-in w a b
     unfolding cube-in
-    in-yes e = reached 0 inRows (sym lies ∙ e) ∙ pair-on w a b silent inRows h
+    in-yes e = reached 0 inRows (sym lies ∙ e) ∙ pair-passed w a b r is silent inRows h
 
     pub in-no : liesIn a b ≡ false → silent (said 2) ≡ cube-in w a b
     unfolding cube-in
-    in-no e = reached 1 inRows (sym lies ∙ e, tt) ∙ pair-on w a b silent inRows h
+    in-no e = reached 1 inRows (sym lies ∙ e, tt) ∙ pair-passed w a b r is silent inRows h
 
     pub number-first : liesIn b a ≡ true → silent (said 1) ≡ wider-number w a b
     unfolding wider-number
-    number-first e = reached 0 numberRows (rw (sym holds ∙ e)) ∙ pair-on w a b silent numberRows h
+    number-first e = reached 0 numberRows (rw (sym holds ∙ e)) ∙ pair-passed w a b r is silent numberRows h
 
     pub number-second : liesIn a b ≡ true → silent (said 1) ≡ wider-number w a b
     unfolding wider-number
-    number-second e = reached 0 numberRows (rw (sym lies ∙ e) (or-true (within (readCube w b) (readCube w a)))) ∙ pair-on w a b silent numberRows h
+    number-second e = reached 0 numberRows (rw (sym lies ∙ e) (or-true (within (readCube w b) (readCube w a)))) ∙ pair-passed w a b r is silent numberRows h
 
     pub number-neither : liesIn b a ≡ false → liesIn a b ≡ false → silent (said 2) ≡ wider-number w a b
     unfolding wider-number
-    number-neither d e = reached 1 numberRows (rw (sym holds ∙ d, sym lies ∙ e), tt) ∙ pair-on w a b silent numberRows h
+    number-neither d e = reached 1 numberRows (rw (sym holds ∙ d, sym lies ∙ e), tt) ∙ pair-passed w a b r is silent numberRows h
 
     pub wider-first : liesIn b a ≡ true → first ≡ wider w a b
     unfolding wider
-    wider-first e = reached 0 widerRows (sym holds ∙ e) ∙ pair-on w a b (λ _. neither) widerRows h
+    wider-first e = reached 0 widerRows (sym holds ∙ e) ∙ pair-passed w a b r is (λ _. neither) widerRows h
 
     pub wider-second : liesIn b a ≡ false → liesIn a b ≡ true → second ≡ wider w a b
     unfolding wider
-    wider-second d e = reached 1 widerRows (sym holds ∙ d, sym lies ∙ e) ∙ pair-on w a b (λ _. neither) widerRows h
+    wider-second d e = reached 1 widerRows (sym holds ∙ d, sym lies ∙ e) ∙ pair-passed w a b r is (λ _. neither) widerRows h
 
     pub wider-neither : liesIn b a ≡ false → liesIn a b ≡ false → neither ≡ wider w a b
     unfolding wider
-    wider-neither d e = reached 2 widerRows (sym holds ∙ d, (sym lies ∙ e, tt)) ∙ pair-on w a b (λ _. neither) widerRows h
+    wider-neither d e = reached 2 widerRows (sym holds ∙ d, (sym lies ∙ e, tt)) ∙ pair-passed w a b r is (λ _. neither) widerRows h
 
     meeting : shares (codes a) (codes b) ≡ shares (readCube w a) (readCube w b)
     meeting =
-        let p = pair-clean w a b h in
+        let p = pair-lent w a b r is h in
         let k = lent-clean w a (p .0) in
         let m = lent-clean w b (p .1) in
         read-shares w a b (k .0) (m .0) (k .1) (m .1)
 
     pub meet-apart : (room : ℕ) → shares (codes a) (codes b) ≡ false → silent (said 2) ≡ cube-meet w a b room
     unfolding cube-meet
-    meet-apart room e = reached 0 (meetRows room) (ap not (sym meeting ∙ e)) ∙ pair-on w a b silent (meetRows room) h
+    meet-apart room e = reached 0 (meetRows room) (ap not (sym meeting ∙ e)) ∙ pair-passed w a b r is silent (meetRows room) h
 
     module _ (bytes : Bytes a) (e : shares (codes a) (codes b) ≡ true) where
       written : writeCube (meet (readCube w a) (readCube w b)) ≡ andBytes a b
       written =
-          let p = pair-clean w a b h in
+          let p = pair-lent w a b r is h in
           let k = lent-clean w a (p .0) in
           let m = lent-clean w b (p .1) in
           read-meet w a b (k .0) (m .0) (k .1) (m .1) bytes
@@ -137,14 +138,14 @@ module _ (w : ℕ) (a b : List ℕ) where
       unfolding cube-meet
       meet-short room l =
           let s = size in
-          reached 1 (meetRows room) (ap not (sym meeting ∙ e), omega arith) ∙ pair-on w a b silent (meetRows room) h
+          reached 1 (meetRows room) (ap not (sym meeting ∙ e), omega arith) ∙ pair-passed w a b r is silent (meetRows room) h
 
       pub meet-written : (room : ℕ) → length a ≤ room → wroteBytes (length a) (andBytes a b) ≡ cube-meet w a b room
       unfolding cube-meet
       meet-written room l =
           let s = size in
           ap₂ wroteBytes (sym size) (sym written)
-          ∙ reached 2 (meetRows room) (ap not (sym meeting ∙ e), (omega arith, tt)) ∙ pair-on w a b silent (meetRows room) h
+          ∙ reached 2 (meetRows room) (ap not (sym meeting ∙ e), (omega arith, tt)) ∙ pair-passed w a b r is silent (meetRows room) h
 
 -- the wider of two references
 abbrev rank : Which → ℕ

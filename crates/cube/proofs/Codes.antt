@@ -2,12 +2,12 @@
 use mathlib.Core.Path.{_≡_, refl, sym, ap, ap₂, _∙_}
 use mathlib.Core.List.{List, [], _∷_, _++_}
 use mathlib.Core.Bool.{Bool, true, false, _&&_, and-assoc, and-false, true≢false}
-use Prim.Native.Nat.{ℕ, zero, suc, _/_, _%_, _^_, _<_}
+use Prim.Native.Nat.{ℕ, zero, suc, _*_, _/_, _%_, _^_, _<_}
 use native.Mathlib.Nat.{mod-lt}
 use native.Mathlib.Omega.{arith}
 use lib.Bits.{bitAnd, and-shr, and-mod, and-le-l}
 use lib.Dec.{lit<, eqb}
-use lib.ListN.{length}
+use lib.ListN.{length, drop}
 use borrow.Author.Tests.{eq-eqb, ne-eqb}
 use Rattle.model.specs.Cube.{Code, none, v0, v1, free, Cube, meetCode, meet, coded, solid, shares, same, within}
 use Rattle.model.proofs.Cubes.{same-is, same-self}
@@ -19,6 +19,11 @@ pub codes-append : (a b : List ℕ) → codes (a ++ b) ≡ codes a ++ codes b
 codes-append [] b = refl
 codes-append (x ∷ a) b =
     ap (λ (c : Cube). codeOf (x / 64 % 4) ∷ codeOf (x / 16 % 4) ∷ codeOf (x / 4 % 4) ∷ codeOf (x % 4) ∷ c) (codes-append a b)
+
+pub codes-drop : (q : ℕ) (bs : List ℕ) → codes (drop q bs) ≡ drop (4 * q) (codes bs)
+codes-drop zero bs = refl
+codes-drop (suc q) [] = let e : 4 * suc q ≡ suc (suc (suc (suc (4 * q)))) = omega arith in rw e
+codes-drop (suc q) (b ∷ bs) = let e : 4 * suc q ≡ suc (suc (suc (suc (4 * q)))) = omega arith in rw (e, codes-drop q bs)
 
 pub solid-append : (a b : Cube) → solid (a ++ b) ≡ solid a && solid b
 solid-append [] b = refl

@@ -15,7 +15,7 @@ use Rattle.format.specs.Rows.{Rows, last, row, isnt, so, passes, outcome}
 use Rattle.format.specs.Bytes.{cubeLen, codes, readCube, allFree, cubeFault, lentRows, lentFault}
 use Rattle.format.proofs.Reached.{reached}
 use Rattle.format.proofs.Coding.{length-codes}
-use Rattle.cube.proofs.Every.{below2}
+use Rattle.cube.proofs.Every.{below, below2}
 use Rattle.cube.proofs.Parts.{take-parts, drop-parts}
 use Rattle.cube.proofs.Codes.{codes-append, solid-append, free-append}
 
@@ -33,6 +33,10 @@ pub byte-fault : (q b : ℕ) → q < 4 → b < 256 → outcome (byteRows b (fill
 unfolding outcome passes readCube cubeFault
 byte-fault q b h k =
     eqb→eq (outcome (byteRows b (fill q))) (cubeFault q (b ∷ [])) (below2 4 256 (λ j x. eqb (outcome (byteRows x (fill j))) (cubeFault j (x ∷ []))) tt q b h k)
+
+pub free-byte : (q b : ℕ) → q < 4 → b ≡ 255 → 0 ≡ cubeFault q (b ∷ [])
+unfolding outcome passes readCube cubeFault
+free-byte q b h e = rw e (eqb→eq 0 (cubeFault q (255 ∷ [])) (below 4 (λ j. eqb 0 (cubeFault j (255 ∷ []))) tt q h))
 
 -- no byte past the positions
 pub short-fault : (w : ℕ) (c : List ℕ) → length c ≤ w / 4 → (t : Bool) → solid (codes c) ≡ t → cond t 0 13 ≡ cubeFault w c

@@ -1,7 +1,7 @@
 -- The bits of header bytes, and where one is set. Assumes nothing.
 use mathlib.Core.Path.{_≡_, refl, sym, ap, _∙_}
 use mathlib.Core.List.{List, [], _∷_, _++_}
-use mathlib.Core.Bool.{Bool, true, false, not, _||_, cond, or-assoc}
+use mathlib.Core.Bool.{Bool, false, not, _||_, or-assoc}
 use Prim.Native.Nat.{ℕ, suc, _/_, _%_, _^_, _≤_, _<_}
 use native.Mathlib.Omega.{arith}
 use lib.Bits.{bitAnd}
@@ -9,13 +9,8 @@ use lib.Dec.{eqb}
 use lib.ListN.{length, getD, take, drop, drop-of-length-le}
 use lib.Seq.{length-take-le}
 use Rattle.model.specs.Cube.{Header}
-use Rattle.answer.specs.Answer.{said}
-use Rattle.format.specs.Rows.{Rows, row, isnt, passes, outcome}
-use Rattle.format.specs.Bytes.{headerLen, bitOf, bits, anyBit}
-use Rattle.format.specs.Told.{Told, silent, lentBits}
-use Rattle.format.proofs.Reached.{reached, clean}
+use Rattle.format.specs.Bytes.{bitOf, bits, anyBit}
 use Rattle.format.proofs.Heading.{length-bits}
-use Rattle.cube.specs.Header.{bitsRows, bitsFault}
 use Rattle.cube.proofs.Every.{below2, agree, agree-eq}
 use Rattle.cube.proofs.Parts.{drop-parts}
 
@@ -47,32 +42,3 @@ some-after used h l =
     let n = length-take-le (used / 8) h (omega arith) in
     sym (any-append (drop (used % 8) (bits (getD h (used / 8) 0 ∷ []))) (bits (drop (suc (used / 8)) h)))
     ∙ ap anyBit (sym (drop-parts bits bits-append h (used / 8) (used % 8) l (omega arith) used (omega arith)))
-
--- the fault of a header or of a field's value
-module _ (n used : ℕ) (bs : List ℕ) where
-  pub wrong-length : (length bs ≡ headerLen n → ⊥) → 11 ≡ bitsFault n used bs
-  unfolding bitsFault
-  wrong-length e = reached 0 (bitsRows n used bs) e
-
-  pub wrong-bit : length bs ≡ headerLen n → anyBit (drop used (bits bs)) ≡ true → 11 ≡ bitsFault n used bs
-  unfolding bitsFault
-  wrong-bit l e = reached 1 (bitsRows n used bs) (l, e)
-
-  pub right-bits : length bs ≡ headerLen n → anyBit (drop used (bits bs)) ≡ false → 0 ≡ bitsFault n used bs
-  unfolding bitsFault
-  right-bits l e = reached 2 (bitsRows n used bs) (l, (e, tt))
-
-  -- what a caller learns from no fault
-  pub bits-clean : bitsFault n used bs ≡ 0 → (length bs ≡ headerLen n) × (anyBit (drop used (bits bs)) ≡ false)
-  unfolding bitsFault
-  bits-clean e = let k = clean 0 (bitsRows n used bs) ((λ q. omega arith), ((λ q. omega arith), tt)) e in (k .0, k .1 .0)
-
-  -- in a call's table the two tests are one, of this fault
-  pub bits-row : (k : Rows Told) → outcome (row (isnt (bitsFault n used bs) 0) (silent (said 11)) k) ≡ outcome (lentBits n used bs k)
-  unfolding bitsFault outcome passes
-  bits-row k = go (eqb (length bs) (headerLen n)) (anyBit (drop used (bits bs)))
-    where
-      go : (s t : Bool) → cond (not (eqb (cond (not s) 11 (cond t 11 0)) 0)) (silent (said 11)) (outcome k) ≡ cond (not s) (silent (said 11)) (cond t (silent (said 11)) (outcome k))
-      go true true = refl
-      go true false = refl
-      go false t = refl

@@ -10,6 +10,9 @@ pub mod Headers
 pub mod Spelling
 pub mod Member
 pub mod Reading
-pub mod Refusals
 pub mod Calling
 pub mod Wholes
+pub mod Laying
+pub mod Sameness
+pub mod Coded
+pub mod Showing

@@ -23,7 +23,7 @@ use Rattle.cube.proofs.Faults.{lent-cube}
 pub lent-clean : (w : ℕ) (c : List ℕ) → lentFault w c ≡ 0 → (length c ≡ cubeLen w) × (cubeFault w c ≡ 0)
 unfolding lentFault
 lent-clean w c e =
-    let l = clean 0 (lentRows w c) (omega arith) e .0 in
+    let l = clean (lentRows w c) (omega arith) e .0 in
     (l, lent-cube w c l ∙ e)
 
 -- what a slice of bytes is known to hold

@@ -3,3 +3,6 @@ pub mod Pair
 pub mod Header
 pub mod Call
 pub mod Whole
+pub mod Lay
+pub mod Code
+pub mod Shown

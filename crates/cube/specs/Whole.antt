@@ -2,15 +2,12 @@
 --   cubeOf q bs              == the cube in the first q bytes of bs
 --   wholeAt q s at           == the cube of q bytes that stands in s at an offset
 --   wholesAt q s at n        == n such cubes, from an offset on
---   wholeDifference q s at   == the difference of such cubes whose kind 2 record stands at an offset
 -- Assumes nothing: these are definitions.
 use Prim.Native.Nat.{ℕ, zero, suc, _+_}
 use mathlib.Core.List.{List, [], _∷_}
 use lib.ListN.{take, drop}
 use Rattle.model.specs.Cube.{Cube}
-use Rattle.model.specs.Difference.{Difference, less}
 use Rattle.format.specs.Bytes.{codes}
-use Rattle.format.specs.Records.{countAt}
 
 unfoldable pub cubeOf : ℕ → List ℕ → Cube
 cubeOf q bs = codes (take q bs)
@@ -21,6 +18,3 @@ wholeAt q s at = cubeOf q (drop at s)
 unfoldable pub wholesAt : ℕ → List ℕ → ℕ → ℕ → List Cube
 wholesAt q s at zero = []
 wholesAt q s at (suc n) = wholeAt q s at ∷ wholesAt q s (at + q) n
-
-abbrev pub wholeDifference : ℕ → List ℕ → ℕ → Difference
-wholeDifference q s at = less (wholeAt q s (at + 5)) (wholesAt q s (at + 5 + q) (countAt s at))

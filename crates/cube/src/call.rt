@@ -1,25 +1,24 @@
 // The public questions about two lent cubes.
 ghost use mathlib.Core.Path.{_≡_};
 ghost use lib.ListN.{length};
-ghost use Rattle.format.specs.Told.{over};
+ghost use Rattle.format.specs.Rows.{outcome};
+ghost use Rattle.format.specs.Told.{over, twoCubes};
 ghost use Rattle.format.specs.Calls.{cube-meet, cube-in, wider-number};
-ghost use Rattle.cube.specs.Call.{pairFault, WiderIs};
+ghost use Rattle.cube.specs.Call.{WiderIs};
 use super::fault::lent_fault;
 use super::pair::lies_in;
 use super::pair::meet_into;
 use super::pair::meets;
-use super::size::WIDEST;
+use super::size::width_refusal;
 use answer::Answer;
 
-// The refusal of a width given directly or of a lent cube, or the number 0.
-fn pair_fault(w: usize, a: &[u8], b: &[u8]) -> Answer
-    ensures { λ r. ⌜ r ≡ pairFault w (now (a .entry)) (now (b .entry)) ⌝ }
+// The refusal of a width given directly or of one of two lent cubes, or the number 0.
+fn pair_refusal(w: usize, a: &[u8], b: &[u8]) -> Answer
+    ensures { λ r. ⌜ r ≡ outcome (twoCubes w (now (a .entry)) (now (b .entry))) ⌝ }
 {
-    if w == 0 {
-        return Answer::said(10);
-    }
-    if WIDEST < w {
-        return Answer::said(10);
+    let refusal = width_refusal(w);
+    if refusal.number != 0 {
+        return refusal;
     }
     let first = lent_fault(a, w);
     if first != 0 {
@@ -37,9 +36,9 @@ pub fn cube_meet(w: usize, a: &[u8], b: &[u8], out: &mut [u8]) -> Answer
     ensures answer { λ r. ⌜ r ≡ cube-meet w (now (a .entry)) (now (b .entry)) (length (now (out .entry))) .answer ⌝ }
     ensures bytes { λ _. ⌜ now (out .exit) ≡ over (now (out .entry)) (cube-meet w (now (a .entry)) (now (b .entry)) (length (now (out .entry))) .bytes) ⌝ }
 {
-    let fault = pair_fault(w, a, b);
-    if fault.number != 0 {
-        return fault;
+    let refusal = pair_refusal(w, a, b);
+    if refusal.number != 0 {
+        return refusal;
     }
     if !meets(a, b) {
         return Answer::said(2);
@@ -55,9 +54,9 @@ pub fn cube_meet(w: usize, a: &[u8], b: &[u8], out: &mut [u8]) -> Answer
 pub fn cube_in(w: usize, a: &[u8], b: &[u8]) -> Answer
     ensures { λ r. ⌜ r ≡ cube-in w (now (a .entry)) (now (b .entry)) .answer ⌝ }
 {
-    let fault = pair_fault(w, a, b);
-    if fault.number != 0 {
-        return fault;
+    let refusal = pair_refusal(w, a, b);
+    if refusal.number != 0 {
+        return refusal;
     }
     if lies_in(a, b) {
         return Answer::said(1);
@@ -69,9 +68,9 @@ pub fn cube_in(w: usize, a: &[u8], b: &[u8]) -> Answer
 pub fn wider_number(w: usize, a: &[u8], b: &[u8]) -> Answer
     ensures { λ r. ⌜ r ≡ wider-number w (now (a .entry)) (now (b .entry)) .answer ⌝ }
 {
-    let fault = pair_fault(w, a, b);
-    if fault.number != 0 {
-        return fault;
+    let refusal = pair_refusal(w, a, b);
+    if refusal.number != 0 {
+        return refusal;
     }
     if lies_in(b, a) {
         return Answer::said(1);
@@ -86,8 +85,8 @@ pub fn wider_number(w: usize, a: &[u8], b: &[u8]) -> Answer
 pub fn wider<'a>(w: usize, a: &'a [u8], b: &'a [u8]) -> &'a [u8]
     ensures { λ r. ⌜ WiderIs w (a .entry) (b .entry) r ⌝ }
 {
-    let fault = pair_fault(w, a, b);
-    if fault.number != 0 {
+    let refusal = pair_refusal(w, a, b);
+    if refusal.number != 0 {
         return &a[..0];
     }
     if lies_in(b, a) {

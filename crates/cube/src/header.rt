@@ -4,10 +4,15 @@ ghost use mathlib.Core.List.{[], _∷_, map};
 ghost use Prim.Native.Nat.{_<_};
 ghost use lib.ListN.{drop};
 ghost use Rattle.model.specs.Fields.{bitCode};
+ghost use Rattle.format.specs.Rows.{outcome};
 ghost use Rattle.format.specs.Bytes.{bits, anyBit, codes};
-ghost use Rattle.cube.specs.Header.{bitsFault, spelledCube};
+ghost use Rattle.format.specs.Told.{bitsTests};
+ghost use Rattle.cube.specs.Header.{spelledCube};
+use super::size::WIDEST_CUBE;
+use super::size::WIDEST_HEADER;
 use super::size::header_len;
 use super::size::least;
+use answer::Answer;
 
 // The cube byte that fixes four bits, for each four.
 const SPELLED: [u8; 16] = [
@@ -51,7 +56,7 @@ fn set_after(b: u8, used: usize) -> bool
 }
 
 // Whether a bit is set at or after the position `used`.
-pub fn bits_after(h: &[u8], used: usize) -> bool
+fn bits_after(h: &[u8], used: usize) -> bool
     ensures { λ r. ⌜ r ≡ anyBit (drop used (bits (now (h .entry)))) ⌝ }
 {
     let whole = used / 8;
@@ -65,17 +70,17 @@ pub fn bits_after(h: &[u8], used: usize) -> bool
     any_set(&h[rest..])
 }
 
-// What is wrong with a header or field value of n positions of which the first `used` may be set: 11, or 0.
-pub fn header_fault(h: &[u8], n: usize, used: usize) -> u8
-    ensures { λ r. ⌜ r ≡ bitsFault n used (now (h .entry)) ⌝ }
+// The refusal of the bytes of a header or field value of n positions of which the first `used` may be set, or the number 0.
+pub fn bits_refusal(bs: &[u8], n: usize, used: usize) -> Answer
+    ensures { λ r. ⌜ r ≡ outcome (bitsTests n used (now (bs .entry))) ⌝ }
 {
-    if h.len() != header_len(n) {
-        return 11;
+    if bs.len() != header_len(n) {
+        return Answer::said(11);
     }
-    if bits_after(h, used) {
-        return 11;
+    if bits_after(bs, used) {
+        return Answer::said(11);
     }
-    0
+    Answer::said(0)
 }
 
 // The cube byte that fixes the last four bits of a byte.
@@ -87,11 +92,11 @@ fn spell(b: u8) -> u8
 }
 
 // The cube of the widest header that fixes each bit of h, as bytes; where h has no byte the bits are zero.
-pub fn spelled(h: &[u8]) -> [u8; 80]
+pub fn spelled(h: &[u8]) -> [u8; WIDEST_CUBE]
     ensures { λ r. ⌜ codes r ≡ spelledCube (now (h .entry)) ⌝ }
 {
-    let n = least(h.len(), 40);
-    let mut c = [0x55u8; 80];
+    let n = least(h.len(), WIDEST_HEADER);
+    let mut c = [0x55u8; WIDEST_CUBE];
     let mut i = 0;
     while i < n {
         c[2 * i] = spell(h[i] / 16);

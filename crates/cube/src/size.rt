@@ -1,7 +1,10 @@
-// How many bytes headers and cubes take.
+// Widths, and how many bytes headers and cubes take.
 ghost use mathlib.Core.Path.{_≡_};
 ghost use Prim.Native.Nat.{min};
+ghost use Rattle.format.specs.Rows.{outcome};
 ghost use Rattle.format.specs.Bytes.{headerLen, cubeLen};
+ghost use Rattle.format.specs.Told.{widthTests};
+use answer::Answer;
 
 // The most positions of a header.
 pub const WIDEST: usize = 320;
@@ -10,6 +13,19 @@ pub const WIDEST: usize = 320;
 pub const WIDEST_CUBE: usize = (WIDEST + 3) / 4;
 
 pub const WIDEST_HEADER: usize = (WIDEST + 7) / 8;
+
+// The refusal of a width given directly, or the number 0.
+pub fn width_refusal(w: usize) -> Answer
+    ensures { λ r. ⌜ r ≡ outcome (widthTests w) ⌝ }
+{
+    if w == 0 {
+        return Answer::said(10);
+    }
+    if WIDEST < w {
+        return Answer::said(10);
+    }
+    Answer::said(0)
+}
 
 // The bytes of a cube of w positions.
 pub fn cube_len(w: usize) -> usize

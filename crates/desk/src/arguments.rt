@@ -1,9 +1,9 @@
 // The arguments of a question, read as the call's form says.
 use crate::find::part;
-use crate::hex;
 use crate::numbers;
 use crate::numbers::Number;
 use crate::numbers::unknown;
+use crate::operands;
 use crate::words::Words;
 
 // The sorts of arguments: numbers, of which W is the width where it is given directly; operands in bytes; the allowance; the room of the buffer
@@ -71,7 +71,7 @@ fn operand_end(line: &mut [u8], start: usize, end: usize) -> Number {
     if line.len() < end {
         return unknown();
     }
-    let n = hex::read(&mut line[start..end]);
+    let n = operands::read(&mut line[start..end]);
     Number {
         known: n.known,
         value: start + n.value,

@@ -9,8 +9,8 @@ use crate::arguments::W;
 use crate::arguments::X;
 use crate::arguments::Y;
 use crate::arguments::Z;
-use crate::hex::put_bytes;
 use crate::text::put;
+use crate::text::put_bytes;
 use crate::text::put_number;
 use crate::words::place;
 use answer::Answer;
@@ -107,8 +107,8 @@ pub fn ask(call: Call, q: Arguments, a: &[u8], b: &[u8], out: &mut [u8]) -> Answ
         Call::DiffIn => walk::diff_in(q.w, a, b, q.allowance, out),
         Call::Ceiling => walk::ceiling(q.w, a),
         Call::RegionTidy => algebra::region_tidy(a, out),
-        Call::Prefix => algebra::prefix(q.w, q.x, q.y, q.z, a, out),
-        Call::EqualFields => algebra::equal_fields(q.w, q.x, q.y, q.z, out),
+        Call::Prefix => fields::prefix(q.w, q.x, q.y, q.z, a, out),
+        Call::EqualFields => fields::equal_fields(q.w, q.x, q.y, q.z, out),
         Call::View => region::view_number(a, q.x, q.y),
         Call::ReadOn => region::read_on(a, q.x).answer,
         Call::Unknown => Answer::said(0),

@@ -3,9 +3,9 @@ mod answers;
 mod arguments;
 mod calls;
 mod find;
-mod hex;
 mod lines;
 mod numbers;
+mod operands;
 mod room;
 mod text;
 mod words;
@@ -106,10 +106,10 @@ fn answer_all(input: &mut [u8], out: &mut [u8], text: &mut [u8]) {
     }
 }
 
-// The input's buffer has room for the longest line and for 65,536 bytes to be read behind it.
+// The input's buffer has room for the longest line and for 65,536 bytes to be read behind it; the text's for the digits of all that a call can write.
 fn main() {
     let mut input = [0u8; 589824];
     let mut out = [0u8; 1048576];
-    let mut text = [0u8; 65536];
+    let mut text = [0u8; 2097152];
     answer_all(&mut input, &mut out, &mut text);
 }

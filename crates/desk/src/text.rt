@@ -59,3 +59,12 @@ pub fn put_numbers(text: &mut [u8], held: usize, s: &[u64]) -> usize {
     }
     held
 }
+
+// Bytes in hex, `-` for none. What is held is written out first, so that the digits have the whole buffer; no more than fit are held.
+pub fn put_bytes(text: &mut [u8], held: usize, s: &[u8]) -> usize {
+    if s.len() == 0 {
+        return put(text, held, b'-');
+    }
+    flush(text, held);
+    hex::write(s, text)
+}

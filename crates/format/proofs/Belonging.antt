@@ -23,9 +23,9 @@ use Rattle.format.specs.Files.{regionIn}
 use Rattle.format.specs.Told.{Told, silent, wide, lentCube, lentRecord, lentFile, lentHeader, yesOr, writing}
 use Rattle.format.specs.Calls.{cube-meet, cube-in, first, second, neither, wider, wider-number, diff-member, region-member}
 use Rattle.format.specs.Meaning.{Inside, Outside}
-use Rattle.format.proofs.Reached.{each}
+use Rattle.format.proofs.Reached.{each, past}
 use Rattle.format.proofs.Coding.{fault-solid, lent-cube}
-use Rattle.format.proofs.Refusals.{lent-refusal, record-refusal, file-refusal, past}
+use Rattle.format.proofs.Refusals.{lent-refusal, record-refusal, file-refusal}
 
 -- a table that ends in a test of b
 module _ (b : Bool) (x : Told) (e : x .answer .number < 10 → x ≡ outcome (yesOr b)) where

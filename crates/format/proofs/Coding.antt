@@ -46,7 +46,7 @@ code-at (b ∷ bs) (suc (suc (suc (suc p)))) h =
 module _ (w : ℕ) (bs : List ℕ) (e : cubeFault w bs ≡ 0) where
   no-fault : (not (solid (readCube w bs)) ≡ false) × ((not (allFree (drop w (codes bs))) ≡ false) × (_≡_ {A = ℕ} 0 0))
   unfolding cubeFault
-  no-fault = clean 0 (cubeRows w bs) (omega arith) e
+  no-fault = clean (cubeRows w bs) (omega arith) e
 
   pub fault-solid : solid (readCube w bs) ≡ true
   fault-solid = not-false (solid (readCube w bs)) (no-fault .0)
@@ -58,7 +58,7 @@ module _ (w : ℕ) (bs : List ℕ) (e : cubeFault w bs ≡ 0) where
 module _ (w : ℕ) (bs : List ℕ) where
   pub lent-length : lentFault w bs ≡ 0 → length bs ≡ cubeLen w
   unfolding lentFault
-  lent-length e = clean 0 (lentRows w bs) (omega arith) e .0
+  lent-length e = clean (lentRows w bs) (omega arith) e .0
 
   pub lent-fault : length bs ≡ cubeLen w → lentFault w bs ≡ cubeFault w bs
   unfolding lentFault cubeFault outcome

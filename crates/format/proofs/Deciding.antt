@@ -10,16 +10,16 @@
 use Prim.Native.Nat.{ℕ, _≤_, _<_}
 use native.Mathlib.Omega.{arith}
 use mathlib.Core.Path.{_≡_, sym, ap, _∙_}
-use mathlib.Core.List.{List, [], _∷_}
+use mathlib.Core.List.{List}
 use mathlib.Core.Bool.{true, false, not, _&&_}
 use lib.ListN.{length}
-use Rattle.model.specs.Cube.{Header, Cube}
+use Rattle.model.specs.Cube.{Header}
 use Rattle.model.specs.Difference.{Difference, Region, inDifference, inRegion}
-use Rattle.model.specs.Sized.{All, Sized, Good}
+use Rattle.model.specs.Sized.{All, Good}
 use Rattle.model.specs.Algebra.{subtraction}
-use Rattle.model.specs.Walk.{Survivor, nothing, piece, joined, walk, walkRegion, walkInclusion, countOf, decide}
+use Rattle.model.specs.Walk.{walk, walkRegion, walkInclusion, countOf, decide}
 use Rattle.model.specs.Ceiling.{ceiling, mostPieces, capped}
-use Rattle.model.proofs.Walking.{survivor-solid, survivor-length, survivor-in, nothing-in, region-survivor-in, region-nothing-in}
+use Rattle.model.proofs.Walking.{survivor-in, nothing-in, walk-sized, region-survivor-in, region-nothing-in, region-sized}
 use Rattle.model.proofs.Setting.{in-subtraction, good-subtraction}
 use Rattle.model.proofs.Bound.{pieces-at-most-ceiling, capped-same}
 use Rattle.model.proofs.Allowed.{count-at-most-ceiling}
@@ -32,32 +32,15 @@ use Rattle.format.specs.Files.{faultNumber, readFile, regionIn}
 use Rattle.format.specs.Told.{Told, silent, wide, lentRecord, lentFile, walking}
 use Rattle.format.specs.Calls.{diff-empty, region-empty, diff-in, ceiling-of}
 use Rattle.format.specs.Meaning.{Lent, Shown}
-use Rattle.format.proofs.Reached.{reached, each}
+use Rattle.format.proofs.Reached.{reached, each, past}
 use Rattle.format.proofs.Recording.{record-of, good-read}
 use Rattle.format.proofs.Filing.{file-of, file-good}
-use Rattle.format.proofs.Refusals.{record-refusal, file-refusal, past}
+use Rattle.format.proofs.Refusals.{record-refusal, file-refusal}
 use Rattle.format.proofs.Asking.{Looks, Asks, count-told, asks-yes, asks-yes-when, asks-no, asks-undecided, asks-undecided-when, asks-count}
 
 -- what the walks look for
 difference-looks : (w : ℕ) (d : Difference) → Good w d → Looks w (inDifference d) (walk d)
-difference-looks w d g =
-    record {
-      none = nothing-in (d .cuts) (d .base);
-      sized = λ q e. record {
-        wide = survivor-length (d .cuts) (d .base) q e ∙ g .base .wide;
-        filled = survivor-solid (d .cuts) (d .base) q (g .base .filled) e;
-      };
-      some = survivor-in (d .cuts) (d .base);
-    }
-
-region-sized : (w : ℕ) (r : Region) → All (Good w) r → (q : Cube) → walkRegion r .survivor ≡ piece q → Sized w q
-region-sized w [] g q e = let z : _≡_ {A = ℕ} 0 1 = cc in absurd (omega arith)
-region-sized w (d ∷ r) g q e = go (walk d .survivor) (difference-looks w d (g .0) .sized q) (region-sized w r (g .1) q) e
-  where
-    go : (s : Survivor) → (s ≡ piece q → Sized w q) → (walkRegion r .survivor ≡ piece q → Sized w q)
-        → joined (walk d .pieces) s (walkRegion r) .survivor ≡ piece q → Sized w q
-    go nothing first later e = later e
-    go (piece p) first later e = first e
+difference-looks w d g = record { none = nothing-in (d .cuts) (d .base); sized = walk-sized w d g; some = survivor-in (d .cuts) (d .base) }
 
 region-looks : (w : ℕ) (r : Region) → All (Good w) r → Looks w (inRegion r) (walkRegion r)
 region-looks w r g = record { none = region-nothing-in r; sized = region-sized w r g; some = region-survivor-in r }

@@ -11,7 +11,7 @@ use Rattle.model.specs.Ceiling.{frees, ceilingFrom}
 use Rattle.answer.specs.Answer.{fault, counted, showing, wrote}
 use Rattle.format.specs.Rows.{passes, outcome}
 use Rattle.format.specs.Bytes.{readHeader, headerBytes, readCube, cubeBytes, writeCube, cubeFault, lentFault}
-use Rattle.format.specs.Records.{cubeAt, cubesAt, cubesFault, widthFault, differenceFault, differenceBytes, fileBytes}
+use Rattle.format.specs.Records.{countAt, frontLen, baseAt, cubeAt, cubesAt, cubesFault, widthFault, differenceFault, frontBytes, differenceBytes, fileBytes}
 use Rattle.format.specs.Told.{silent}
 use Rattle.format.specs.Calls.{cube-in, diff-less, diff-empty, ceiling-of, equal-fields}
 
@@ -43,5 +43,5 @@ pub figures :
     × (equal-fields 2 0 1 1 8 ≡ record { answer = wrote 8; bytes = 6 ∷ 0 ∷ 2 ∷ 0 ∷ 2 ∷ 0xFF ∷ 0x6F ∷ 0x9F ∷ [] })
     -- P10: W 2, 1* less 0* tidies to 1* with no cut
     × (tidy (less (v1 ∷ free ∷ []) ((v0 ∷ free ∷ []) ∷ [])) ≡ less (v1 ∷ free ∷ []) [] ∷ [])
-unfolding outcome passes readHeader headerBytes readCube cubeBytes cubeFault lentFault cubeAt cubesAt cubesFault widthFault differenceFault differenceBytes fileBytes tidyFrom intersection restored unequal equalFields visit decide frees ceilingFrom cube-in diff-less diff-empty ceiling-of equal-fields
+unfolding outcome passes readHeader headerBytes readCube cubeBytes cubeFault lentFault countAt frontLen baseAt cubeAt cubesAt cubesFault widthFault differenceFault frontBytes differenceBytes fileBytes tidyFrom intersection restored unequal equalFields visit decide frees ceilingFrom cube-in diff-less diff-empty ceiling-of equal-fields
 figures = (refl, refl, refl, refl, refl, refl, refl, refl, refl, refl, refl, refl, refl)

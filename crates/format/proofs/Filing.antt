@@ -3,6 +3,7 @@
 --   before-number                          a record read before the rest leaves the rest's refusal as it is
 --   read-refused, read-begun               a file whose kind 1 record is refused, and one whose kind 1 record is accepted
 --   Width, width-of          the facts about an accepted kind 1 record, and that one has them
+--   first-six                behind one the first difference stands at 6
 --   Listed w s at n os       == os are the offsets of the accepted records from an offset to the end, with n before it
 --   listed-turn              such offsets before the end
 --   File, file-of            the facts about an accepted file, and that a file with no fault has them
@@ -24,7 +25,7 @@ use Rattle.model.specs.Sized.{All, Good}
 use Rattle.model.proofs.Bools.{or-none}
 use Rattle.format.specs.Limits.{widest, mostCuts, mostDifferences, widthKind}
 use Rattle.format.specs.Bytes.{Bytes}
-use Rattle.format.specs.Records.{u16Bytes, countAt, lengthAt, kindAt, nextAt, widthOf, widthRows, widthFault, differenceFault, differenceBytes, differencesBytes, fileBytes}
+use Rattle.format.specs.Records.{countAt, lengthAt, kindAt, nextAt, widthOf, firstAt, widthRows, widthFault, differenceFault, differenceBytes, differencesBytes, widthBytes, fileBytes}
 use Rattle.format.specs.Files.{Reading, refused, whole, faultNumber, offsets, before, differencesFrom, readFile, regionOf, regionIn}
 use Rattle.format.specs.Told.{anyLong}
 use Rattle.format.proofs.Reached.{reached, clean}
@@ -64,20 +65,25 @@ pub read-refused : (s : List ℕ) → (widthFault s ≡ 0 → ⊥) → readFile 
 unfolding readFile
 read-refused s f = rw (ne-eqb (widthFault s) 0 f)
 
-pub read-begun : (s : List ℕ) → widthFault s ≡ 0 → readFile s ≡ differencesFrom (length s - 0) (widthOf s) s 6 0
+pub read-begun : (s : List ℕ) → widthFault s ≡ 0 → readFile s ≡ differencesFrom (length s - 0) (widthOf s) s (firstAt s) 0
 unfolding readFile
 read-begun s f = let e : length s - 0 ≡ length s = omega arith in rw (e, eq-eqb (widthFault s) 0 f)
 
 pub record Width (s : List ℕ) : Type 0 where
-  pub long : 6 ≤ length s
+  pub long : firstAt s ≤ length s
   pub size : lengthAt s 0 ≡ 4
   pub kind : kindAt s 0 ≡ widthKind
   pub some : 1 ≤ widthOf s
   pub narrow : widthOf s ≤ widest
 
 pub width-of : (s : List ℕ) → widthFault s ≡ 0 → Width s
-unfolding widthFault
-width-of s e = let c = clean 0 (widthRows s) (omega arith) e in omega arith
+unfolding widthFault firstAt
+width-of s e = let c = clean (widthRows s) (omega arith) e in omega arith
+
+-- where the first difference stands behind an accepted kind 1
+pub first-six : (s : List ℕ) → widthFault s ≡ 0 → firstAt s ≡ 6
+unfolding firstAt
+first-six s e = omega (arith, width-of s e)
 
 -- the offsets of an accepted file
 pub data Listed (w : ℕ) (s : List ℕ) : ℕ → ℕ → List ℕ → Type 0 where
@@ -113,13 +119,13 @@ lists w s (suc t) at n h e =
 pub record File (s : List ℕ) : Type 0 where
   pub width : Width s
   pub read : readFile s ≡ whole (offsets (readFile s))
-  pub list : Listed (widthOf s) s 6 0 (offsets (readFile s))
+  pub list : Listed (widthOf s) s (firstAt s) 0 (offsets (readFile s))
 
 file-of-lists : (s : List ℕ) (b : Bool) → eqb (widthFault s) 0 ≡ b → faultNumber (readFile s) ≡ 0 → File s
 file-of-lists s true p e =
     let f = eqb-true (widthFault s) 0 p in
     let begun = read-begun s f in
-    let l = lists (widthOf s) s (length s - 0) 6 0 (omega arith) (sym (ap faultNumber begun) ∙ e) in
+    let l = lists (widthOf s) s (length s - 0) (firstAt s) 0 (omega arith) (sym (ap faultNumber begun) ∙ e) in
     let r : readFile s ≡ whole (l .0) = begun ∙ l .1 in
     record { width = width-of s f; read = r ∙ ap whole (sym (ap offsets r)); list = rw (ap offsets r) (l .2) }
 file-of-lists s false p e =
@@ -164,12 +170,17 @@ module _ {s : List ℕ} (f : File s) where
   pub file-count : length (regionIn s) ≤ mostDifferences
   file-count = simp length-map (omega (arith, few-listed (f .list) (omega arith)))
 
-  front : Bytes s → s ≡ u16Bytes (lengthAt s 0) ++ (u16Bytes (kindAt s 0) ++ (u16Bytes (widthOf s) ++ drop 6 s))
-  front b = u16-same s 0 b (omega arith) ∙ rw (u16-same s 2 b (omega arith), u16-same s 4 b (omega arith))
+  front : Bytes s → s ≡ widthBytes (widthOf s) ++ drop (firstAt s) s
+  unfolding firstAt
+  front b =
+      let l : 6 ≤ length s = omega (arith, f .width) in
+      let z : nextAt s 0 ≡ 6 = omega (arith, f .width) in
+      rw z
+      (u16-same s 0 b (omega arith) ∙ rw (u16-same s 2 b (omega arith), u16-same s 4 b (omega arith), f .width .size, f .width .kind))
 
   pub write-file-read : Bytes s → fileBytes (widthOf s) (regionIn s) ≡ s
   unfolding fileBytes
-  write-file-read b = rw (all-bytes b (f .list)) (sym (rw (f .width .size, f .width .kind) at (front b)))
+  write-file-read b = rw (all-bytes b (f .list)) (sym (front b))
 
 -- records, written
 module _ (w : ℕ) (s : List ℕ) (narrow : w ≤ widest) where
@@ -216,10 +227,10 @@ module _ (w : ℕ) (r : Region) (g : All (Good w) r) (cuts : anyLong r ≡ false
       sym (reached 7 (widthRows (fileBytes w r)) (omega arith))
 
   read-back : (os : List ℕ) × (readFile (fileBytes w r) ≡ whole os) × (regionOf w (fileBytes w r) os ≡ r)
-  unfolding fileBytes
+  unfolding fileBytes firstAt
   read-back =
       let s = fileBytes w r in
-      let p = from-written w s narrow r (length s - 0) 6 0 g cuts (omega arith) (omega arith) refl in
+      let p = from-written w s narrow r (length s - 0) (firstAt s) 0 g cuts (omega arith) (omega arith) refl in
       (p .0, read-begun s width-accepted ∙ rw width-read (p .1), p .2)
 
   pub file-accepted : faultNumber (readFile (fileBytes w r)) ≡ 0

@@ -4,6 +4,7 @@ pub mod Coding
 pub mod Heading
 pub mod Recording
 pub mod Filing
+pub mod Lending
 pub mod Rewriting
 pub mod Refusals
 pub mod Asking

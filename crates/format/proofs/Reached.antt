@@ -4,13 +4,16 @@
 --   fails t h          a test that fails is false
 --   rest n k           the rows of k after the first n
 --   skipped n k h      where the first n tests fail (Skips), the outcome is that of the rows after them
---   gives k r h        a number that a table gives is the table's outcome: two such numbers are one
---   clean n k m e      where the outcome is n, which no row gives but the last line, every test fails
+--   Ends Ok p          == Ok holds of the last line of p, and of no row's outcome
+--   refused, passed    a table before another: where Ok does not hold of its outcome, that is the outcome of both; where it does, the other goes on
+--   Past x k           == every test of k fails, and x is its last line
+--   past               where Ok holds of what a table that Ends so gives, every test fails
+--   clean              the same of a table of numbers whose last line alone is 0
 use Prim.Native.Nat.{ℕ, zero, suc}
-use mathlib.Core.Path.{_≡_, refl}
+use mathlib.Core.Path.{_≡_, refl, subst}
 use mathlib.Core.Bool.{Bool, true, false, cond}
 use borrow.Author.Tests.{lt-ltb, le-ltb, eq-eqb, ne-eqb, ltb-true, ltb-false, eqb-true, eqb-false, not-true, not-false}
-use Rattle.format.specs.Rows.{Test, below, is, isnt, so, passes, Rows, last, row, outcome, Holds, Fails, Each, Reaches, nth, Gives}
+use Rattle.format.specs.Rows.{Test, below, is, isnt, so, passes, Rows, last, row, outcome, onto, Holds, Fails, Each, Reaches, nth}
 
 holds : (t : Test) → Holds t → passes t ≡ true
 unfolding passes
@@ -66,31 +69,52 @@ module _ {A : Type 0} where
   Skips (suc n) (last a) = Unit {0}
   Skips (suc n) (row t a k) = Fails t × Skips n k
 
+  abbrev pub Past : A → Rows A → Type 0
+  Past x (last y) = x ≡ y
+  Past x (row t y k) = Fails t × Past x k
+
   pub skipped : (n : ℕ) (k : Rows A) → Skips n k → outcome (rest n k) ≡ outcome k
   unfolding outcome
   skipped zero k h = refl
   skipped (suc n) (last a) h = refl
   skipped (suc n) (row t a k) h = rw (fails t (h .0)) (skipped n k (h .1))
 
-pub gives : (k : Rows ℕ) (r : ℕ) → Gives k r → r ≡ outcome k
-gives k r h = each (_≡_ r) k h
+-- a table before another
+module _ {A : Type 0} (Ok : A → Type 0) where
+  abbrev pub Ends : Rows A → Type 0
+  Ends (last a) = Ok a
+  Ends (row t a p) = (Holds t → Ok a → ⊥) × Ends p
 
--- every test fails, and the last line is n
-abbrev pub Clean : ℕ → Rows ℕ → Type 0
-Clean n (last a) = a ≡ n
-Clean n (row t a k) = Fails t × Clean n k
+  -- the same, whatever the last line is
+  abbrev pub Refuses : Rows A → Type 0
+  Refuses (last a) = Unit {0}
+  Refuses (row t a p) = (Holds t → Ok a → ⊥) × Refuses p
 
--- no row gives n, but for the last line
-abbrev pub Marked : ℕ → Rows ℕ → Type 0
-Marked n (last a) = Unit {0}
-Marked n (row t a k) = (a ≡ n → ⊥) × Marked n k
+  module _ {B : Type 0} (f : A → B) where
+    pub refused : (p : Rows A) (k : Rows B) → Ends p → (Ok (outcome p) → ⊥) → f (outcome p) ≡ outcome (onto f p k)
+    unfolding outcome
+    refused (last a) k e n = absurd (n e)
+    refused (row t a p) k e n = go (passes t) n (refused p k (e .1))
+      where
+        go : (b : Bool) → (Ok (cond b a (outcome p)) → ⊥) → ((Ok (outcome p) → ⊥) → f (outcome p) ≡ outcome (onto f p k))
+            → f (cond b a (outcome p)) ≡ cond b (f a) (outcome (onto f p k))
+        go true n later = refl
+        go false n later = later n
 
-clean-row : (n : ℕ) (t : Test) (a : ℕ) (k : Rows ℕ) (b : Bool) → passes t ≡ b → (a ≡ n → ⊥) → (outcome k ≡ n → Clean n k) → cond b a (outcome k) ≡ n
-    → Clean n (row t a k)
-clean-row n t a k true p m f q = absurd (m q)
-clean-row n t a k false p m f q = (failed t p, f q)
+    pub passed : (p : Rows A) (k : Rows B) → Refuses p → Ok (outcome p) → outcome k ≡ outcome (onto f p k)
+    unfolding outcome
+    passed (last a) k r o = refl
+    passed (row t a p) k r o = go (passes t) refl o (passed p k (r .1))
+      where
+        go : (b : Bool) → passes t ≡ b → Ok (cond b a (outcome p)) → (Ok (outcome p) → outcome k ≡ outcome (onto f p k))
+            → outcome k ≡ cond b (f a) (outcome (onto f p k))
+        go true h o later = absurd (r .0 (held t h) o)
+        go false h o later = later o
 
-pub clean : (n : ℕ) (k : Rows ℕ) → Marked n k → outcome k ≡ n → Clean n k
-unfolding outcome
-clean n (last a) m e = e
-clean n (row t a k) m e = clean-row n t a k (passes t) refl (m .0) (clean n k (m .1)) e
+  pub past : (k : Rows A) → Refuses k → Ok (outcome k) → Past (outcome k) k
+  unfolding outcome
+  past (last x) r l = refl
+  past (row t x k) r l = each (λ y. Ok y → Past y (row t x k)) (row t x (last (outcome k))) (λ h m. absurd (r .0 h m), λ f m. (f, past k (r .1) m)) l
+
+pub clean : (k : Rows ℕ) → Refuses (λ n. n ≡ 0) k → outcome k ≡ 0 → Past 0 k
+clean k r e = subst (λ (n : ℕ). Past n k) e (past (λ n. n ≡ 0) k r e)

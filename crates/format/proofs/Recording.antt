@@ -1,7 +1,7 @@
 -- Kind 2 records: what an accepted one holds, and that reading and writing undo one another. Assumes nothing.
 --   drop-past                what stands behind a front that stands at an offset
 --   u16-same                 a number in two bytes is written again with the same bytes
---   bytes-append             bytes behind bytes are bytes
+--   bytes-take, bytes-drop, bytes-append    parts of bytes, and bytes behind bytes, are bytes
 --   length-written, bytes-written    how long the record of a difference is, and that it is bytes
 --   length-read, kind-read, count-read, next-read, difference-read, record-accepted
 --                            of a record that was written and stands at an offset: its parts, its end, its difference, and that it is accepted
@@ -25,7 +25,7 @@ use Rattle.model.specs.Difference.{Difference, less}
 use Rattle.model.specs.Sized.{All, Sized, Good}
 use Rattle.format.specs.Limits.{widest, mostCuts, mostDifferences, differenceKind}
 use Rattle.format.specs.Bytes.{Bytes, cubeLen, readCube, writeCube, cubeFault}
-use Rattle.format.specs.Records.{u16At, lengthAt, kindAt, countAt, nextAt, differenceLen, cubeAt, cubesAt, differenceAt, cubesFault, bytesAfter, differenceRows, differenceFault, u16Bytes, cubesBytes, differenceBytes}
+use Rattle.format.specs.Records.{u16At, lengthAt, kindAt, nextAt, countAt, frontLen, baseAt, differenceLen, cubeAt, cubesAt, differenceAt, cubesFault, bytesAfter, differenceRows, differenceFault, u16Bytes, cubesBytes, frontBytes, differenceBytes}
 use Rattle.format.proofs.Reached.{reached, clean}
 use Rattle.format.proofs.Coding.{fault-solid, read-length, read-write, write-length, write-bytes, write-accepted, write-read}
 
@@ -47,12 +47,12 @@ next-byte : (s : List ℕ) (i j : ℕ) → i < length s → suc i ≡ j → drop
 next-byte s i j h e = rw (← e) (drop-cons s i 0 h)
 
 -- bytes
-bytes-take : (n : ℕ) (bs : List ℕ) → Bytes bs → Bytes (take n bs)
+pub bytes-take : (n : ℕ) (bs : List ℕ) → Bytes bs → Bytes (take n bs)
 bytes-take zero bs h = tt
 bytes-take (suc n) [] h = tt
 bytes-take (suc n) (b ∷ bs) h = (h .0, bytes-take n bs (h .1))
 
-bytes-drop : (n : ℕ) (bs : List ℕ) → Bytes bs → Bytes (drop n bs)
+pub bytes-drop : (n : ℕ) (bs : List ℕ) → Bytes bs → Bytes (drop n bs)
 bytes-drop zero bs h = h
 bytes-drop (suc n) [] h = tt
 bytes-drop (suc n) (b ∷ bs) h = bytes-drop n bs (h .1)
@@ -107,11 +107,11 @@ module _ (w : ℕ) (s : List ℕ) where
 
 -- a record, written
 pub length-written : (w : ℕ) (d : Difference) → Good w d → length (differenceBytes w d) ≡ 2 + differenceLen (length (d .cuts)) w
-unfolding differenceBytes
+unfolding differenceBytes frontBytes
 length-written w d g = omega (arith, cubes-length w (d .base ∷ d .cuts) (g .base, g .cuts))
 
 pub bytes-written : (w : ℕ) (d : Difference) → length (d .cuts) ≤ mostCuts → Bytes (differenceBytes w d)
-unfolding differenceBytes
+unfolding differenceBytes frontBytes
 bytes-written w d few = (omega arith, (omega arith, (omega arith, (omega arith, (omega arith, cubes-bytes (d .base ∷ d .cuts))))))
 
 module _ (w : ℕ) (d : Difference) (s post : List ℕ) (at : ℕ) (g : Good w d) (few : length (d .cuts) ≤ mostCuts) (narrow : w ≤ widest)
@@ -121,44 +121,43 @@ module _ (w : ℕ) (d : Difference) (s post : List ℕ) (at : ℕ) (g : Good w d
       let m = mul-le-mul {n₁ = length (d .cuts) + 1} {m₁ = cubeLen w} {n₂ = mostCuts + 1} {m₂ = cubeLen widest} (omega arith) (omega arith) in
       omega arith
 
-  cubes : drop (at + 5) s ≡ cubesBytes (d .base ∷ d .cuts) ++ post
-  unfolding differenceBytes
-  cubes =
-      let front = u16Bytes (differenceLen (length (d .cuts)) w) ++ (u16Bytes differenceKind ++ (length (d .cuts) ∷ [])) in
-      drop-past s front (cubesBytes (d .base ∷ d .cuts) ++ post) at 5 e refl
+  abbrev k : ℕ
+  k = length (d .cuts)
 
-  pub length-read : lengthAt s at ≡ differenceLen (length (d .cuts)) w
-  unfolding differenceBytes
-  length-read = u16-read s _ at (differenceLen (length (d .cuts)) w) short e
+  pub length-read : lengthAt s at ≡ differenceLen k w
+  unfolding differenceBytes frontBytes
+  length-read = u16-read s _ at (differenceLen k w) short e
 
   pub kind-read : kindAt s at ≡ differenceKind
-  unfolding differenceBytes
-  kind-read = u16-read s _ (at + 2) differenceKind (omega arith) (drop-past s (u16Bytes (differenceLen (length (d .cuts)) w)) _ at 2 e refl)
+  unfolding differenceBytes frontBytes
+  kind-read = u16-read s _ (at + 2) differenceKind (omega arith) (drop-past s (u16Bytes (differenceLen k w)) _ at 2 e refl)
 
-  pub count-read : countAt s at ≡ length (d .cuts)
-  unfolding differenceBytes
-  count-read =
-      let front = u16Bytes (differenceLen (length (d .cuts)) w) ++ u16Bytes differenceKind in
-      byte-read s _ (at + 4) (length (d .cuts)) (drop-past s front _ at 4 e refl)
+  pub count-read : countAt s at ≡ k
+  unfolding differenceBytes frontBytes countAt
+  count-read = byte-read s _ (at + 4) k (drop-past s (u16Bytes (differenceLen k w) ++ u16Bytes differenceKind) _ at 4 e refl)
 
   pub next-read : nextAt s at ≡ at + length (differenceBytes w d)
   next-read = omega (arith, length-read, length-written w d g)
 
-  both : (cubesAt w s (at + 5) (suc (length (d .cuts))) ≡ d .base ∷ d .cuts) × (cubesFault w s (at + 5) (suc (length (d .cuts))) ≡ 0)
-  both = cubes-written w s (d .base ∷ d .cuts) post (at + 5) (g .base, g .cuts) cubes
+  cubes : drop (baseAt s at) s ≡ cubesBytes (d .base ∷ d .cuts) ++ post
+  unfolding differenceBytes frontBytes baseAt frontLen
+  cubes = drop-past s (u16Bytes (differenceLen k w) ++ (u16Bytes differenceKind ++ (k ∷ []))) (cubesBytes (d .base ∷ d .cuts) ++ post) at 5 e refl
+
+  both : (cubesAt w s (baseAt s at) (suc k) ≡ d .base ∷ d .cuts) × (cubesFault w s (baseAt s at) (suc k) ≡ 0)
+  both = cubes-written w s (d .base ∷ d .cuts) post (baseAt s at) (g .base, g .cuts) cubes
 
   pub difference-read : differenceAt w s at ≡ d
   unfolding cubesAt
   difference-read =
       let r = both .0 in
-      let b : cubeAt w s (at + 5) ≡ d .base = cc in
-      let c : cubesAt w s (at + 5 + cubeLen w) (length (d .cuts)) ≡ d .cuts = cc in
+      let b : cubeAt w s (baseAt s at) ≡ d .base = cc in
+      let c : cubesAt w s (baseAt s at + cubeLen w) k ≡ d .cuts = cc in
       rw count-read (λ i. less (b i) (c i))
 
   pub record-accepted : (alone : Bool) (n : ℕ) → n < mostDifferences → bytesAfter alone s at ≡ 0 → differenceFault alone w n s at ≡ 0
   unfolding differenceFault
   record-accepted alone n h a =
-      let c : cubesFault w s (at + 5) (countAt s at + 1) ≡ 0 = rw (count-read, add-one) (both .1) in
+      let c : cubesFault w s (baseAt s at) (countAt s at + 1) ≡ 0 = rw (count-read, add-one) (both .1) in
       let l : lengthAt s at ≡ differenceLen (countAt s at) w = rw count-read length-read in
       let m : length (differenceBytes w d) + length post ≡ length s - at = simp (length-append, length-drop) at (sym (ap length e)) in
       sym (reached 9 (differenceRows alone w n s at) (omega (arith, length-read, kind-read, count-read, length-written w d g))) ∙ c
@@ -184,14 +183,14 @@ pub record Record (alone : Bool) (w n : ℕ) (s : List ℕ) (at : ℕ) : Type 0 
   pub kind : kindAt s at ≡ differenceKind
   pub few : countAt s at ≤ mostCuts
   pub room : n < mostDifferences
-  pub next : nextAt s at ≡ at + 5 + (countAt s at + 1) * cubeLen w
+  pub next : nextAt s at ≡ baseAt s at + (countAt s at + 1) * cubeLen w
   pub lone : bytesAfter alone s at ≡ 0
-  pub cubes : cubesFault w s (at + 5) (countAt s at + 1) ≡ 0
+  pub cubes : cubesFault w s (baseAt s at) (countAt s at + 1) ≡ 0
 
 pub record-of : (alone : Bool) (w n : ℕ) (s : List ℕ) (at : ℕ) → differenceFault alone w n s at ≡ 0 → Record alone w n s at
-unfolding differenceFault
+unfolding differenceFault baseAt frontLen
 record-of alone w n s at e =
-    let c = clean 0 (differenceRows alone w n s at) (omega arith) e in
+    let c = clean (differenceRows alone w n s at) (omega arith) e in
     omega arith
 
 -- its cubes
@@ -242,27 +241,29 @@ module _ (w : ℕ) (s : List ℕ) where
   cubes-count (suc k) at = ap suc (cubes-count k (at + cubeLen w))
 
 module _ {alone : Bool} {w n : ℕ} {s : List ℕ} {at : ℕ} (r : Record alone w n s at) where
-  pub each-cube : (i : ℕ) → i ≤ countAt s at → cubeFault w (take (cubeLen w) (drop (at + 5 + i * cubeLen w) s)) ≡ 0
-  each-cube i h = cubes-accepted w s (countAt s at + 1) i (at + 5) (omega arith) (r .cubes)
+  pub each-cube : (i : ℕ) → i ≤ countAt s at → cubeFault w (take (cubeLen w) (drop (baseAt s at + i * cubeLen w) s)) ≡ 0
+  each-cube i h = cubes-accepted w s (countAt s at + 1) i (baseAt s at) (omega arith) (r .cubes)
 
   pub cuts-count : length (differenceAt w s at .cuts) ≡ countAt s at
-  cuts-count = cubes-count w s (countAt s at) (at + 5 + cubeLen w)
+  cuts-count = cubes-count w s (countAt s at) (baseAt s at + cubeLen w)
 
   pub good-read : Good w (differenceAt w s at)
   unfolding cubesAt
   good-read =
-      let g = cubes-good w s (suc (countAt s at)) (at + 5) (omega arith) (rw add-one at (r .cubes)) in
+      let g = cubes-good w s (suc (countAt s at)) (baseAt s at) (omega arith) (rw add-one at (r .cubes)) in
       record { base = g .0; cuts = g .1 }
 
-  front : Bytes s → drop at s ≡ u16Bytes (differenceLen (countAt s at) w) ++ (u16Bytes differenceKind ++ (countAt s at ∷ drop (at + 5) s))
+  front : Bytes s → drop at s ≡ frontBytes (countAt s at) (cubeLen w) ++ drop (baseAt s at) s
+  unfolding frontBytes countAt baseAt frontLen
   front b =
       let z : at + 2 + 2 ≡ at + 4 = omega arith in
+      let n = r .next in
       rw (u16-same s at b (omega arith), u16-same s (at + 2) b (omega arith), z, next-byte s (at + 4) (at + 5) (omega arith) (omega arith), r .size, r .kind)
 
   pub bytes-read : Bytes s → differenceBytes w (differenceAt w s at) ≡ take (2 + lengthAt s at) (drop at s)
-  unfolding differenceBytes cubesAt
+  unfolding differenceBytes cubesAt frontBytes
   bytes-read b =
       let k = countAt s at in
-      let all = cubes-same w s (suc k) (at + 5) b (omega arith) (rw add-one at (r .cubes)) in
+      let all = cubes-same w s (suc k) (baseAt s at) b (omega arith) (rw add-one at (r .cubes)) in
       let l : 2 + lengthAt s at ≡ suc (suc (suc (suc (suc (suc k * cubeLen w))))) = omega arith in
       rw (l, front b, cuts-count, all)

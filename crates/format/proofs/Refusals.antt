@@ -1,19 +1,14 @@
 -- Refusals have numbers from 10 on, so a smaller number tells that no test refused. Assumes nothing.
 --   Refusal f             == f is 0, no fault, or from 10 on
 --   lent-refusal, record-refusal, width-refusal, file-refusal    the faults of a lent cube, of a kind 2 and a kind 1 record and of a file are such
---   Refuses Ok k          == no row of the table k gives what Ok holds of, but for the last line
---   Past x k              == every test of k fails, and x is its last line
---   past                  where Ok holds of what such a table gives, every test fails
 use Prim.Native.Nat.{ℕ, zero, suc, _+_, _*_, _≤_, min}
 use native.Mathlib.Omega.{arith}
-use mathlib.Core.Path.{_≡_, refl}
 use mathlib.Core.List.{List, []}
 use mathlib.Core.Bool.{Bool, true, false, cond}
 use lib.Dec.{leb, eqb}
 use lib.ListN.{length, take, drop}
-use Rattle.format.specs.Rows.{Rows, last, row, outcome, Holds, Fails}
 use Rattle.format.specs.Bytes.{cubeLen, cubeRows, cubeFault, lentRows, lentFault}
-use Rattle.format.specs.Records.{countAt, nextAt, widthOf, widthRows, widthFault, cubesFault, differenceRows, differenceFault}
+use Rattle.format.specs.Records.{countAt, baseAt, nextAt, widthOf, firstAt, widthRows, widthFault, cubesFault, differenceRows, differenceFault}
 use Rattle.format.specs.Files.{refused, whole, faultNumber, before, differencesFrom, readFile}
 use Rattle.format.proofs.Reached.{each}
 use Rattle.format.proofs.Filing.{before-number}
@@ -44,7 +39,7 @@ module _ (w : ℕ) (s : List ℕ) where
 
   pub record-refusal : (alone : Bool) (n at : ℕ) → Refusal (differenceFault alone w n s at)
   unfolding differenceFault
-  record-refusal alone n at = each Refusal (differenceRows alone w n s at) (omega (arith, cubes-refusal (countAt s at + 1) (at + 5)))
+  record-refusal alone n at = each Refusal (differenceRows alone w n s at) (omega (arith, cubes-refusal (countAt s at + 1) (baseAt s at)))
 
   from-refusal : (t at n : ℕ) → Refusal (faultNumber (differencesFrom t w s at n))
   unfolding differencesFrom
@@ -61,20 +56,4 @@ width-refusal s = each Refusal (widthRows s) (omega arith)
 
 pub file-refusal : (s : List ℕ) → Refusal (faultNumber (readFile s))
 unfolding readFile
-file-refusal s = either faultNumber (eqb (widthFault s) 0) _ (refused (widthFault s) 0) (from-refusal (widthOf s) s (length s) 6 0) (width-refusal s)
-
--- a table of refusals
-module _ {A : Type 0} where
-  abbrev pub Refuses : (A → Type 0) → Rows A → Type 0
-  Refuses Ok (last x) = Unit {0}
-  Refuses Ok (row t x k) = (Holds t → Ok x → ⊥) × Refuses Ok k
-
-  abbrev pub Past : A → Rows A → Type 0
-  Past x (last y) = x ≡ y
-  Past x (row t y k) = Fails t × Past x k
-
-  pub past : (Ok : A → Type 0) (k : Rows A) → Refuses Ok k → Ok (outcome k) → Past (outcome k) k
-  unfolding outcome
-  past Ok (last x) r l = refl
-  past Ok (row t x k) r l =
-      each (λ y. Ok y → Past y (row t x k)) (row t x (last (outcome k))) (λ h m. absurd (r .0 h m), λ f m. (f, past Ok k (r .1) m)) l
+file-refusal s = either faultNumber (eqb (widthFault s) 0) _ (refused (widthFault s) 0) (from-refusal (widthOf s) s (length s) (firstAt s) 0) (width-refusal s)

@@ -33,8 +33,7 @@ use Rattle.format.specs.Files.{faultNumber, readFile, regionIn}
 use Rattle.format.specs.Told.{Told, wide, lentRecord, lentFile, writing, writingRegion}
 use Rattle.format.specs.Calls.{cube-meet, region-tidy, diff-intersect, region-intersect, diff-less, region-less, prefix, equal-fields}
 use Rattle.format.specs.Meaning.{Written, WrittenCube}
-use Rattle.format.proofs.Reached.{reached}
-use Rattle.format.proofs.Refusals.{Refuses, Past, past}
+use Rattle.format.proofs.Reached.{reached, Refuses, Past, past}
 use Rattle.format.proofs.Coding.{fault-solid, lent-length, lent-cube, lent-fault, read-length, write-length, write-bytes, write-accepted, read-write}
 use Rattle.format.proofs.Heading.{length-bits}
 use Rattle.format.proofs.Recording.{record-of, good-read, alone-difference, alone-accepted}

@@ -15,14 +15,14 @@ use Rattle.model.specs.Difference.{Difference, less}
 use Rattle.answer.specs.Answer.{said, fault}
 use Rattle.format.specs.Rows.{last, row, below, isnt}
 use Rattle.format.specs.Bytes.{cubeLen}
-use Rattle.format.specs.Records.{countAt, widthOf, widthFault, cubeAt, cubesAt, differenceAt}
+use Rattle.format.specs.Records.{countAt, baseAt, widthOf, widthFault, cubeAt, cubesAt, differenceAt}
 use Rattle.format.specs.Files.{faultNumber, faultOffset, offsets, readFile}
 use Rattle.format.specs.Calls.{unseen, view, Step, startOf, read-on}
 use Rattle.format.specs.Meaning.{cubesOf, Seen, Onward}
-use Rattle.format.proofs.Reached.{each}
+use Rattle.format.proofs.Reached.{each, past}
 use Rattle.format.proofs.Recording.{Record, each-cube, cuts-count}
 use Rattle.format.proofs.Filing.{Listed, ended, listed, file-of}
-use Rattle.format.proofs.Refusals.{width-refusal, record-refusal, file-refusal, past}
+use Rattle.format.proofs.Refusals.{width-refusal, record-refusal, file-refusal}
 
 -- by index
 pub map-at : {A : Type 0} (f : ℕ → A) (os : List ℕ) (d : ℕ) (x : A) → d < length os → getD (map f os) d x ≡ f (getD os d 0)
@@ -47,7 +47,7 @@ listed-at (listed r rest) (suc d) l = listed-at rest d (omega arith)
 seen : (s : List ℕ) (d i : ℕ)
     → let at = getD (offsets (readFile s)) d 0 in
     d < length (offsets (readFile s)) → i ≤ countAt s at → (n : ℕ) × Record false (widthOf s) n s at
-    → Seen s d i (record { answer = said 1; start = at + 5 + i * cubeLen (widthOf s); size = cubeLen (widthOf s) })
+    → Seen s d i (record { answer = said 1; start = baseAt s at + i * cubeLen (widthOf s); size = cubeLen (widthOf s) })
 unfolding cubeAt cubesAt
 seen s d i h l (n, r) =
     let w = widthOf s in
@@ -59,7 +59,7 @@ seen s d i h l (n, r) =
       size = refl;
       inside = omega (arith, mul-le-mul-right {m = suc i} {n = countAt s at + 1} (cubeLen w) (omega arith));
       sound = each-cube r i l;
-      cube = sym (ap (λ (x : Difference). getD (cubesOf x) i []) this ∙ cube-at w s (suc (countAt s at)) i (at + 5) (omega arith));
+      cube = sym (ap (λ (x : Difference). getD (cubesOf x) i []) this ∙ cube-at w s (suc (countAt s at)) i (baseAt s at) (omega arith));
     }
 
 pub view-told : (s : List ℕ) (d i : ℕ) → view s d i .answer .number ≡ 1 → Seen s d i (view s d i)
@@ -69,7 +69,7 @@ view-told s d i e =
     let k = row (isnt (faultNumber (readFile s)) 0) (unseen (fault (faultNumber (readFile s)) 1 (faultOffset (readFile s))))
     (row (below (length (offsets (readFile s))) (d + 1)) (unseen (said 23))
     (row (below (countAt s at) i) (unseen (said 23))
-    (last (record { answer = said 1; start = at + 5 + i * cubeLen (widthOf s); size = cubeLen (widthOf s) })))) in
+    (last (record { answer = said 1; start = baseAt s at + i * cubeLen (widthOf s); size = cubeLen (widthOf s) })))) in
     let p = past (λ v. v .answer .number < 10) k (omega (arith, file-refusal s)) (omega arith) in
     let r = listed-at (file-of s (p .0) .list) d (omega arith) in
     rw (p .1 .1 .1) (seen s d i (omega arith) (p .1 .1 .0) r)
@@ -80,13 +80,13 @@ module _ (s : List ℕ) (place : ℕ) where
   unfolding read-on
   read-on-record =
       each (λ (x : Step). x .answer .number ≡ 1 → Onward s place x) _
-      (omega (arith, width-refusal s, record-refusal (widthOf s) s false 0 (startOf place)))
+      (omega (arith, width-refusal s, record-refusal (widthOf s) s false 0 (startOf s place)))
 
-  pub read-on-end : read-on s place .answer .number ≡ 2 → (widthFault s ≡ 0) × (startOf place ≡ length s)
+  pub read-on-end : read-on s place .answer .number ≡ 2 → (widthFault s ≡ 0) × (startOf s place ≡ length s)
   unfolding read-on
   read-on-end =
-      each (λ (x : Step). x .answer .number ≡ 2 → (widthFault s ≡ 0) × (startOf place ≡ length s)) _
-      (omega (arith, width-refusal s, record-refusal (widthOf s) s false 0 (startOf place)))
+      each (λ (x : Step). x .answer .number ≡ 2 → (widthFault s ≡ 0) × (startOf s place ≡ length s)) _
+      (omega (arith, width-refusal s, record-refusal (widthOf s) s false 0 (startOf s place)))
 
   pub read-on-stays : (read-on s place .answer .number ≡ 1 → ⊥) → read-on s place .place ≡ place
   unfolding read-on

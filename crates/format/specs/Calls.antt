@@ -16,7 +16,7 @@
 --   Viewed, unseen a                    == a view's number and its stretch of the file; the answer a with a stretch of length 0
 --   view                                == a cube by difference and index, as a stretch of the file, and the number of the separate question
 --   Step, stay a place                  == a step's answer and the next place; the answer a with the same place
---   startOf place                       == where a step looks for a record
+--   startOf s place                     == where a step looks for a record
 --   read-on                             == one step of reading on, and the next place
 --   question                            == what the question program tells of its input
 -- Assumes nothing: these are definitions.
@@ -34,12 +34,12 @@ use Rattle.model.specs.Walk.{walk, walkRegion, walkInclusion}
 use Rattle.model.specs.Ceiling.{ceiling, capped}
 use Rattle.answer.specs.declared.Answer.{Answer}
 use Rattle.answer.specs.Answer.{said, fault, counted, placed}
-use Rattle.format.specs.Rows.{last, row, below, is, isnt, so, outcome}
-use Rattle.format.specs.Limits.{widest, mostCuts, mostInput}
-use Rattle.format.specs.Bytes.{cubeLen, bits, readHeader, readCube, writeCube, lentFault}
-use Rattle.format.specs.Records.{countAt, nextAt, widthOf, widthFault, differenceAt, differenceFault, differenceBytes}
+use Rattle.format.specs.Rows.{last, row, onto, below, is, isnt, so, outcome}
+use Rattle.format.specs.Limits.{mostCuts, mostInput}
+use Rattle.format.specs.Bytes.{cubeLen, bits, readHeader, readCube, writeCube}
+use Rattle.format.specs.Records.{countAt, baseAt, nextAt, widthOf, firstAt, widthFault, differenceAt, differenceFault, differenceBytes}
 use Rattle.format.specs.Files.{readFile, faultNumber, faultOffset, offsets, regionIn}
-use Rattle.format.specs.Told.{Told, silent, wide, lentCube, lentRecord, lentFile, lentBits, lentHeader, yesOr, writing, writingRegion, walking}
+use Rattle.format.specs.Told.{Told, silent, twoCubes, wide, lentCube, lentRecord, lentFile, lentBits, lentHeader, yesOr, writing, writingRegion, walking}
 
 -- "Membership, emptiness and intersection take differences or regions; a difference or a region may have a difference taken from it; inclusion compares two
 -- differences. Intersection takes two of one sort." .. "In "a less b" and "a in b", a is operand 1."
@@ -72,13 +72,10 @@ pub data Which : Type 0 where
 unfoldable pub wider : ℕ → List ℕ → List ℕ → Which
 wider w a b =
     outcome
-    (row (is w 0) neither
-    (row (below widest w) neither
-    (row (isnt (lentFault w a) 0) neither
-    (row (isnt (lentFault w b) 0) neither
+    (onto (λ refusal. neither) (twoCubes w a b)
     (row (so (within (readCube w b) (readCube w a))) first
     (row (so (within (readCube w a) (readCube w b))) second
-    (last neither)))))))
+    (last neither))))
 
 -- "for the wider cube 1, 2 or the cubes' refusal"
 unfoldable pub wider-number : ℕ → List ℕ → List ℕ → Told
@@ -223,7 +220,7 @@ view s d i =
     (row (isnt (faultNumber (readFile s)) 0) (unseen (fault (faultNumber (readFile s)) 1 (faultOffset (readFile s))))
     (row (below (length (offsets (readFile s))) (d + 1)) (unseen (said 23))
     (row (below (countAt s at) i) (unseen (said 23))
-    (last (record { answer = said 1; start = at + 5 + i * cubeLen (widthOf s); size = cubeLen (widthOf s) })))))
+    (last (record { answer = said 1; start = baseAt s at + i * cubeLen (widthOf s); size = cubeLen (widthOf s) })))))
 
 -- reading on
 
@@ -235,14 +232,14 @@ abbrev pub stay : Answer → ℕ → Step
 stay a place = record { answer = a; place = place }
 
 -- "It starts at place 0: kind 1, then the first difference. Any other place is read as a kind 2 record's start"
-abbrev pub startOf : ℕ → ℕ
-startOf place = cond (eqb place 0) 6 place
+abbrev pub startOf : List ℕ → ℕ → ℕ
+startOf s place = cond (eqb place 0) (firstAt s) place
 
 -- "gives one difference after another: 1 with the record's offset, 2 with offset 0 after the last. A refused record gives its number and offset, and the
 -- place stays, as it does after 2." .. "the file's end is 2, beyond it 15. W is kind 1's, read first in each step and refused at 0. Records are not counted, so 19 is not given."
 unfoldable pub read-on : List ℕ → ℕ → Step
 read-on s place =
-    let at = startOf place in
+    let at = startOf s place in
     let f = differenceFault false (widthOf s) 0 s at in
     outcome
     (row (isnt (widthFault s) 0) (stay (fault (widthFault s) 1 0) place)

@@ -12,7 +12,7 @@ use mathlib.Core.Bool.{false, cond}
 use lib.Dec.{leb, eqb}
 use lib.ListN.{length}
 use Rattle.model.specs.Difference.{Region}
-use Rattle.format.specs.Records.{nextAt, widthOf, widthFault, differenceFault, differenceAt}
+use Rattle.format.specs.Records.{nextAt, widthOf, firstAt, widthFault, differenceFault, differenceAt}
 
 pub data Reading : Type 0 where
   refused : ℕ → ℕ → Reading
@@ -47,7 +47,7 @@ differencesFrom (suc t) w s at n =
 -- than bytes.
 unfoldable pub readFile : List ℕ → Reading
 readFile s =
-    let rest = differencesFrom (length s) (widthOf s) s 6 0 in
+    let rest = differencesFrom (length s) (widthOf s) s (firstAt s) 0 in
     cond (eqb (widthFault s) 0) rest (refused (widthFault s) 0)
 
 abbrev pub regionOf : ℕ → List ℕ → List ℕ → Region

@@ -2,11 +2,12 @@
 --   widest            == the most positions of a header
 --   widestCube, widestHeader    == the bytes of the widest cube and of the widest header
 --   mostCuts          == the most cuts of a difference
+--   takenCuts         == the most cuts that a piece of a result is given before it is tidied: those of two differences
 --   mostDifferences   == the most differences of a region
 --   mostInput         == the most bytes that the question program reads
 --   widthKind, differenceKind   == the kinds of records
 -- Assumes nothing: these are definitions.
-use Prim.Native.Nat.{ℕ, _+_, _/_}
+use Prim.Native.Nat.{ℕ, _+_, _*_, _/_}
 
 -- "A header is W bits, W from 1 to 320 (an IPv6 header is 320)."
 abbrev pub widest : ℕ
@@ -21,6 +22,9 @@ widestHeader = (widest + 7) / 8
 -- "A difference is one base cube and 0 to 64 cuts."
 abbrev pub mostCuts : ℕ
 mostCuts = 64
+
+abbrev pub takenCuts : ℕ
+takenCuts = 2 * mostCuts
 
 -- "A region is 0 to 256 differences."
 abbrev pub mostDifferences : ℕ

@@ -68,6 +68,6 @@ pub record Seen (s : List ℕ) (d i : ℕ) (v : Viewed) : Type 0 where
 
 pub record Onward (s : List ℕ) (place : ℕ) (x : Step) : Type 0 where
   pub width : widthFault s ≡ 0
-  pub begun : x .answer .offset ≡ startOf place
-  pub sound : differenceFault false (widthOf s) 0 s (startOf place) ≡ 0
-  pub end : x .place ≡ nextAt s (startOf place)
+  pub begun : x .answer .offset ≡ startOf s place
+  pub sound : differenceFault false (widthOf s) 0 s (startOf s place) ≡ 0
+  pub end : x .place ≡ nextAt s (startOf s place)

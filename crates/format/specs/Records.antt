@@ -1,19 +1,25 @@
 -- Records: "a two-byte length (bytes after the length), a two-byte kind and a body, numbers little-endian".
 --   u16At s at               == the number in two bytes of s at an offset
---   lengthAt, kindAt, countAt   == a record's length, kind and count of cuts
+--   lengthAt, kindAt         == a record's length and kind
 --   nextAt s at              == where the record at an offset ends
+--   frontLen k               == how many bytes stand in front of the base of a difference with k cuts
+--   countAt, baseAt          == the count of cuts of the record of a difference, and where its base starts
 --   differenceLen k w        == the length of a kind 2 record with k cuts
 --   cubeAt w s at            == the cube of w positions that stands at an offset
 --   cubesAt w s at k         == the k cubes from an offset on
 --   differenceAt w s at      == the difference whose kind 2 record stands at an offset
 --   cubesFault w s at k      == what is wrong with the first bad one of k cubes from an offset on, or 0
 --   widthOf s                == the W that the kind 1 record at the start of s states
+--   firstAt s                == where the records of differences begin in the file s
 --   bytesAfter alone s at    == how many bytes follow the record, where none may
---   recordRows, widthRows, differenceRows == the tests of a record up to its kind, and the whole tests of the two kinds
+--   frameRows kind s at      == the tests of the length and the kind of a record
+--   widthRows s              == the tests of the kind 1 record
+--   numberRows, differenceRows == the tests of a kind 2 record up to its cubes, and all of them
 --   widthFault s             == what is wrong with the kind 1 record at the start of s, or 0
 --   differenceFault alone w n s at == what is wrong with the kind 2 record at an offset, with n differences before it, or 0; `alone`: it is a
 --                               single record, and nothing may follow it
---   u16Bytes n, cubesBytes, differenceBytes w d, differencesBytes w r, widthBytes w, fileBytes w r == what is written
+--   u16Bytes n, cubesBytes, frontBytes k q, differenceBytes w d, differencesBytes w r, widthBytes w, fileBytes w r == what is written; the front of a
+--                               record is all that stands before its base, k cuts of q bytes
 -- Assumes nothing: these are definitions.
 use Prim.Native.Nat.{ℕ, zero, suc, _+_, _-_, _*_, _/_, _%_}
 use mathlib.Core.List.{List, [], _∷_, _++_}
@@ -22,7 +28,7 @@ use lib.Dec.{eqb}
 use lib.ListN.{length, getD, take, drop}
 use Rattle.model.specs.Cube.{Cube}
 use Rattle.model.specs.Difference.{Difference, less, Region}
-use Rattle.format.specs.Rows.{Rows, last, row, below, is, isnt, outcome}
+use Rattle.format.specs.Rows.{Rows, last, row, then, below, is, isnt, outcome}
 use Rattle.format.specs.Limits.{widest, mostCuts, mostDifferences, widthKind, differenceKind}
 use Rattle.format.specs.Bytes.{cubeLen, readCube, writeCube, cubeFault}
 
@@ -35,11 +41,18 @@ lengthAt s at = u16At s at
 abbrev pub kindAt : List ℕ → ℕ → ℕ
 kindAt s at = u16At s (at + 2)
 
-abbrev pub countAt : List ℕ → ℕ → ℕ
-countAt s at = getD s (at + 4) 0
-
 abbrev pub nextAt : List ℕ → ℕ → ℕ
 nextAt s at = at + 2 + lengthAt s at
+
+-- "Kind 2: one byte k, the base, k cuts"
+unfoldable pub countAt : List ℕ → ℕ → ℕ
+countAt s at = getD s (at + 4) 0
+
+unfoldable pub frontLen : ℕ → ℕ
+frontLen k = 5
+
+unfoldable pub baseAt : List ℕ → ℕ → ℕ
+baseAt s at = at + frontLen (countAt s at)
 
 -- "its length is 3 + (k+1) times ceil(W/4)"
 abbrev pub differenceLen : ℕ → ℕ → ℕ
@@ -53,9 +66,8 @@ unfoldable pub cubesAt : ℕ → List ℕ → ℕ → ℕ → List Cube
 cubesAt w s at zero = []
 cubesAt w s at (suc k) = cubeAt w s at ∷ cubesAt w s (at + cubeLen w) k
 
--- "Kind 2: one byte k, the base, k cuts"
 abbrev pub differenceAt : ℕ → List ℕ → ℕ → Difference
-differenceAt w s at = less (cubeAt w s (at + 5)) (cubesAt w s (at + 5 + cubeLen w) (countAt s at))
+differenceAt w s at = less (cubeAt w s (baseAt s at)) (cubesAt w s (baseAt s at + cubeLen w) (countAt s at))
 
 -- refused. "base then cuts, each 13 before 14"
 unfoldable pub cubesFault : ℕ → List ℕ → ℕ → ℕ → ℕ
@@ -66,21 +78,25 @@ cubesFault w s at (suc k) =
     cond (eqb first 0) later first
 
 -- "In a record: 15; a length below 2 is 17; 16"
-abbrev pub recordRows : ℕ → List ℕ → ℕ → Rows ℕ → Rows ℕ
-recordRows kind s at then =
+abbrev pub frameRows : ℕ → List ℕ → ℕ → Rows ℕ
+frameRows kind s at =
     row (below (length s) (at + 2)) 15
     (row (below (length s) (nextAt s at)) 15
     (row (below (lengthAt s at) 2) 17
     (row (isnt (kindAt s at) kind) 16
-    then)))
+    (last 0))))
 
 abbrev pub widthOf : List ℕ → ℕ
 widthOf s = u16At s 4
 
+-- behind kind 1
+unfoldable pub firstAt : List ℕ → ℕ
+firstAt s = nextAt s 0
+
 -- "kind 1's length, then W"
 abbrev pub widthRows : List ℕ → Rows ℕ
 widthRows s =
-    recordRows widthKind s 0
+    then (frameRows widthKind s 0)
     (row (isnt (lengthAt s 0) 4) 17
     (row (is (widthOf s) 0) 10
     (row (below widest (widthOf s)) 10
@@ -95,15 +111,20 @@ bytesAfter alone s at = cond alone (length s - nextAt s at) 0
 
 -- "A 257th kind 2 record is 19 as soon as its kind is known." .. "kind 2's length below 3 is 17; 18; 17; base then cuts" ..
 -- "Bytes after a single record are found with the second 17, before its cubes."
-abbrev pub differenceRows : Bool → ℕ → ℕ → List ℕ → ℕ → Rows ℕ
-differenceRows alone w n s at =
-    recordRows differenceKind s at
+abbrev pub numberRows : Bool → ℕ → ℕ → List ℕ → ℕ → Rows ℕ
+numberRows alone w n s at =
+    then (frameRows differenceKind s at)
     (row (below mostDifferences (n + 1)) 19
     (row (below (lengthAt s at) 3) 17
     (row (below mostCuts (countAt s at)) 18
     (row (isnt (lengthAt s at) (differenceLen (countAt s at) w)) 17
     (row (isnt (bytesAfter alone s at) 0) 17
-    (last (cubesFault w s (at + 5) (countAt s at + 1))))))))
+    (last 0))))))
+
+abbrev pub differenceRows : Bool → ℕ → ℕ → List ℕ → ℕ → Rows ℕ
+differenceRows alone w n s at =
+    then (numberRows alone w n s at)
+    (last (cubesFault w s (baseAt s at) (countAt s at + 1)))
 
 unfoldable pub differenceFault : Bool → ℕ → ℕ → List ℕ → ℕ → ℕ
 differenceFault alone w n s at = outcome (differenceRows alone w n s at)
@@ -116,9 +137,11 @@ abbrev pub cubesBytes : List Cube → List ℕ
 cubesBytes [] = []
 cubesBytes (c ∷ cs) = writeCube c ++ cubesBytes cs
 
+unfoldable pub frontBytes : ℕ → ℕ → List ℕ
+frontBytes k q = u16Bytes (3 + (k + 1) * q) ++ (u16Bytes differenceKind ++ (k ∷ []))
+
 unfoldable pub differenceBytes : ℕ → Difference → List ℕ
-differenceBytes w d =
-    u16Bytes (differenceLen (length (d .cuts)) w) ++ (u16Bytes differenceKind ++ (length (d .cuts) ∷ cubesBytes (d .base ∷ d .cuts)))
+differenceBytes w d = frontBytes (length (d .cuts)) (cubeLen w) ++ cubesBytes (d .base ∷ d .cuts)
 
 abbrev pub differencesBytes : ℕ → Region → List ℕ
 differencesBytes w [] = []

@@ -7,7 +7,8 @@
 --   Each P k        == P holds of each row's outcome where the tests above it fail and its own holds
 --   Reaches n k     == every test above row n of k fails, and its own holds; rows are counted from 0, and the last line comes after them
 --   nth n k         == what row n of k gives
---   Gives k r       == the number r is what the table k gives, as facts that arithmetic reads
+--   onto f p k      == the table k, after the tests of p, whose outcomes f makes those of k; the last line of p is not asked
+--   then p k        == the same of tables of one type
 -- Assumes nothing: these are definitions.
 use Prim.Native.Nat.{ℕ, zero, suc, _≤_, _<_}
 use mathlib.Core.Path.{_≡_}
@@ -34,6 +35,14 @@ unfoldable pub outcome : {A : Type 0} → Rows A → A
 outcome (last a) = a
 outcome (row t a k) = cond (passes t) a (outcome k)
 
+-- a table whose tests come before another's
+abbrev pub onto : {A B : Type 0} → (A → B) → Rows A → Rows B → Rows B
+onto f (last a) k = k
+onto f (row t a p) k = row t (f a) (onto f p k)
+
+abbrev pub then : {A : Type 0} → Rows A → Rows A → Rows A
+then p k = onto (λ a. a) p k
+
 abbrev pub Holds : Test → Type 0
 Holds (below m n) = m < n
 Holds (is m n) = m ≡ n
@@ -49,9 +58,6 @@ Fails (so b) = b ≡ false
 abbrev pub Each : {A : Type 0} → (A → Type 0) → Rows A → Type 0
 Each P (last a) = P a
 Each P (row t a k) = (Holds t → P a) × (Fails t → Each P k)
-
-abbrev pub Gives : Rows ℕ → ℕ → Type 0
-Gives k r = Each (_≡_ r) k
 
 abbrev pub Reaches : {A : Type 0} → ℕ → Rows A → Type 0
 Reaches n (last a) = Unit {0}

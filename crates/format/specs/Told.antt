@@ -1,19 +1,24 @@
 -- What a call tells: its result, and the bytes that it writes at the front of the buffer lent to it.
 --   Told            == the result and the bytes written, none where nothing is written
 --   over old new    == a buffer that held old, with new written over its front
+--   Permitted t old r new == what the contract of a call with a buffer permits: the result r is that of t, and the buffer, old before, is now new, with
+--                      the bytes of t over its front
 --   silent a        == the result a, and nothing is written
---   wide w k        == the table k, after the tests of a width given directly
---   lentCube, lentRecord, lentFile == the table k, after the tests of an operand
---   lentBits n used bs k == the table k, after the tests of the bytes of n positions of which the first `used` may be set
+--   widthTests, cubeTests, recordTests, fileTests == the tests of a width given directly, and of an operand
+--   bitsTests n used bs  == the tests of the bytes of n positions of which the first `used` may be set
+--   twoCubes, oneRecord, twoRecords == the tests of a width given directly, and then of two cubes, of one record, of two
+--   wide, lentCube, lentRecord, lentFile, lentBits == the table k, after such tests
 --   lentHeader w h k == the table k, after the tests of a header of w positions
 --   yesOr b         == yes where b is true, else no
 --   writing bs room == the bytes bs are to be written into a buffer of that room
 --   anyLong r       == some difference of r has more cuts than may be written
+--   writingFile r bs room  == the region r is to be written, as the bytes bs
 --   writingRegion w r room == the tidied region r is to be written
 --   deciding w d           == what the decision d of a walk tells, with the header that it shows
 --   walking w n room v     == the walk v is answered with the allowance n, into a header buffer of that room
 -- Assumes nothing: these are definitions.
 use Prim.Native.Nat.{ℕ}
+use mathlib.Core.Path.{_≡_}
 use mathlib.Core.List.{List, [], _∷_, _++_}
 use mathlib.Core.Bool.{Bool, true, false, _||_}
 use lib.Dec.{ltb}
@@ -23,7 +28,7 @@ use Rattle.model.specs.Difference.{Region}
 use Rattle.model.specs.Walk.{Found, Decision, undecided, empty, member, decide}
 use Rattle.answer.specs.declared.Answer.{Answer}
 use Rattle.answer.specs.Answer.{said, fault, counted, showing, wrote}
-use Rattle.format.specs.Rows.{Rows, last, row, below, is, isnt, so}
+use Rattle.format.specs.Rows.{Rows, last, row, onto, then, below, is, isnt, so}
 use Rattle.format.specs.Limits.{widest, mostCuts, mostDifferences}
 use Rattle.format.specs.Bytes.{headerLen, bits, anyBit, writeHeader, lentFault}
 use Rattle.format.specs.Records.{differenceFault, fileBytes}
@@ -37,41 +42,72 @@ pub record Told : Type 0 where
 abbrev pub over : List ℕ → List ℕ → List ℕ
 over old new = new ++ drop (length new) old
 
+pub record Permitted (t : Told) (old : List ℕ) (r : Answer) (new : List ℕ) : Type 0 where
+  pub answer : r ≡ t .answer
+  pub buffer : new ≡ over old (t .bytes)
+
 -- "Every refusal, and answers 1 and 3, write nothing."
 abbrev pub silent : Answer → Told
 silent a = record { answer = a; bytes = [] }
 
+-- the tests of what is lent, each a table of refusals whose last line, the number 0, refuses nothing
 -- "10: W is 0 or above 320"; "for 10 where W is given directly" operand and offset are 0
-abbrev pub wide : ℕ → Rows Told → Rows Told
-wide w k =
-    row (is w 0) (silent (said 10))
-    (row (below widest w) (silent (said 10))
-    k)
+abbrev pub widthTests : ℕ → Rows Answer
+widthTests w =
+    row (is w 0) (said 10)
+    (row (below widest w) (said 10)
+    (last (said 0)))
 
 -- "A lent cube's fault has its operand and offset 0."
-abbrev pub lentCube : ℕ → List ℕ → ℕ → Rows Told → Rows Told
-lentCube w c operand k =
-    row (isnt (lentFault w c) 0) (silent (fault (lentFault w c) operand 0))
-    k
+abbrev pub cubeTests : ℕ → List ℕ → ℕ → Rows Answer
+cubeTests w c operand =
+    row (isnt (lentFault w c) 0) (fault (lentFault w c) operand 0)
+    (last (said 0))
 
 -- "A single difference is lent as one kind 2 record with W beside it."
-abbrev pub lentRecord : ℕ → List ℕ → ℕ → Rows Told → Rows Told
-lentRecord w s operand k =
-    row (isnt (differenceFault true w 0 s 0) 0) (silent (fault (differenceFault true w 0 s 0) operand 0))
-    k
+abbrev pub recordTests : ℕ → List ℕ → ℕ → Rows Answer
+recordTests w s operand =
+    row (isnt (differenceFault true w 0 s 0) 0) (fault (differenceFault true w 0 s 0) operand 0)
+    (last (said 0))
 
 -- "The offset is that of the record at fault in its operand."
-abbrev pub lentFile : List ℕ → ℕ → Rows Told → Rows Told
-lentFile s operand k =
-    row (isnt (faultNumber (readFile s)) 0) (silent (fault (faultNumber (readFile s)) operand (faultOffset (readFile s))))
-    k
+abbrev pub fileTests : List ℕ → ℕ → Rows Answer
+fileTests s operand =
+    row (isnt (faultNumber (readFile s)) 0) (fault (faultNumber (readFile s)) operand (faultOffset (readFile s)))
+    (last (said 0))
 
 -- "11: a header or field value has the wrong length, or a bit set where zero is required"; `used` bits may be set
+abbrev pub bitsTests : ℕ → ℕ → List ℕ → Rows Answer
+bitsTests n used bs =
+    row (isnt (length bs) (headerLen n)) (said 11)
+    (row (so (anyBit (drop used (bits bs)))) (said 11)
+    (last (said 0)))
+
+-- what several calls start with: W given directly, and then two cubes, one record or two
+abbrev pub twoCubes : ℕ → List ℕ → List ℕ → Rows Answer
+twoCubes w a b = then (widthTests w) (then (cubeTests w a 1) (cubeTests w b 2))
+
+abbrev pub oneRecord : ℕ → List ℕ → Rows Answer
+oneRecord w s = then (widthTests w) (recordTests w s 1)
+
+abbrev pub twoRecords : ℕ → List ℕ → List ℕ → Rows Answer
+twoRecords w s t = then (oneRecord w s) (recordTests w t 2)
+
+-- a call's table behind such tests
+abbrev pub wide : ℕ → Rows Told → Rows Told
+wide w k = onto silent (widthTests w) k
+
+abbrev pub lentCube : ℕ → List ℕ → ℕ → Rows Told → Rows Told
+lentCube w c operand k = onto silent (cubeTests w c operand) k
+
+abbrev pub lentRecord : ℕ → List ℕ → ℕ → Rows Told → Rows Told
+lentRecord w s operand k = onto silent (recordTests w s operand) k
+
+abbrev pub lentFile : List ℕ → ℕ → Rows Told → Rows Told
+lentFile s operand k = onto silent (fileTests s operand) k
+
 abbrev pub lentBits : ℕ → ℕ → List ℕ → Rows Told → Rows Told
-lentBits n used bs k =
-    row (isnt (length bs) (headerLen n)) (silent (said 11))
-    (row (so (anyBit (drop used (bits bs)))) (silent (said 11))
-    k)
+lentBits n used bs k = onto silent (bitsTests n used bs) k
 
 abbrev pub lentHeader : ℕ → List ℕ → Rows Told → Rows Told
 lentHeader w h k = lentBits w w h k
@@ -93,11 +129,14 @@ anyLong [] = false
 anyLong (d ∷ r) = ltb mostCuts (length (d .cuts)) || anyLong r
 
 -- "then 18 if any difference of the tidied result has too many cuts, 19, 22"
-abbrev pub writingRegion : ℕ → Region → ℕ → Rows Told
-writingRegion w r room =
+abbrev pub writingFile : Region → List ℕ → ℕ → Rows Told
+writingFile r bs room =
     row (so (anyLong r)) (silent (said 18))
     (row (below mostDifferences (length r)) (silent (said 19))
-    (writing (fileBytes w r) room))
+    (writing bs room))
+
+abbrev pub writingRegion : ℕ → Region → ℕ → Rows Told
+writingRegion w r room = writingFile r (fileBytes w r) room
 
 -- "Every refusal, and answers 1 and 3, write nothing. Answer 2 to emptiness or inclusion writes one header."
 abbrev pub deciding : ℕ → Decision → Told

@@ -7,9 +7,10 @@ use mathlib.Core.Path.{_≡_, refl, sym, _∙_}
 use mathlib.Core.List.{List, [], _∷_, map}
 use mathlib.Core.Bool.{Bool, true, false, cond, true≢false, false≢true}
 use Rattle.model.specs.Cube.{Code, none, v0, v1, free, Cube, meetCode, coded, shares}
-use Rattle.model.specs.Walk.{opens, other, children, Survivor, nothing, piece, Found, joined, inTurn, counted, visit}
+use Rattle.model.specs.Walk.{opens, other, children, Survivor, nothing, piece, Found, joined, inTurn, visit}
 use Rattle.model.specs.Alike.{opensAll, Alike, SameWalk}
 use Rattle.model.proofs.Bools.{and-left, and-right}
+use Rattle.model.proofs.Turns.{visit-none, visit-met, visit-passed, visit-by}
 use Rattle.model.proofs.Parts.{Part, keep, fix, part-self, wider-shares}
 
 -- the positions that p and q leave free get the same values, some of them: p becomes r and q becomes s
@@ -119,14 +120,11 @@ turn-same f R t (x ∷ xs) (y ∷ ys) a =
     joined-same (f x .pieces) (f y .pieces) (f x .survivor) (f y .survivor) (inTurn f xs) (inTurn f ys) (t x y (a .0)) (turn-same f R t xs ys (a .1))
 
 pub walk-alike : (cs : List Cube) (p q : Cube) → Alike cs p q → SameWalk (visit cs p) (visit cs q)
-unfolding visit
-walk-alike [] p q a = (refl, λ e. cc, λ e. cc)
-walk-alike (c ∷ cs) p q a = rw (← a .0) (go (shares p c) refl (walk-alike cs))
-  where
-    go : (g : Bool) → shares p c ≡ g → ((r s : Cube) → Alike cs r s → SameWalk (visit cs r) (visit cs s))
-        → SameWalk (cond g (counted (inTurn (visit cs) (children p c))) (visit cs p)) (cond g (counted (inTurn (visit cs) (children q c))) (visit cs q))
-    go true m ih =
-        let t = turn-same (visit cs) (Narrowed p q) (λ r s n. ih r s (narrowed-alike n cs (a .2))) (children p c) (children q c)
-        (children-narrowed p q c m (sym (a .0) ∙ m) (a .1 m)) in
-        (omega arith, t .1, t .2)
-    go false m ih = ih p q (a .2)
+walk-alike =
+    visit-by (λ cs p v. (q : Cube) → Alike cs p q → SameWalk v (visit cs q))
+    (λ p q a. rw (visit-none q) (refl, λ e. cc, λ e. cc))
+    (λ c cs p m ih q a.
+    let t = turn-same (visit cs) (Narrowed p q) (λ r s n. ih r s (narrowed-alike n cs (a .2))) (children p c) (children q c)
+    (children-narrowed p q c m (sym (a .0) ∙ m) (a .1 m)) in
+    rw (visit-met c cs q (sym (a .0) ∙ m)) (omega arith, t .1, t .2))
+    (λ c cs p m ih q a. rw (visit-passed c cs q (sym (a .0) ∙ m)) (ih q (a .2)))

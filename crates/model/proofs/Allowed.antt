@@ -1,5 +1,6 @@
 -- What an allowance makes of a walk.
 --   decided-when, undecided-when   a walk that the allowance pays for is decided, and no other
+--   decide-by               what holds in the three cases holds of every decision: undecided, empty, a member
 --   count-at-most-ceiling   no decision on an allowance up to mostPieces counts more pieces than the capped ceiling
 -- Assumes nothing.
 use Prim.Native.Nat.{ℕ, _≤_, _<_}
@@ -22,8 +23,8 @@ pub undecided-when : (n : ℕ) (v : Found) → n < v .pieces → decide n v ≡ 
 unfolding decide
 undecided-when n v h = rw (lt-leb _ _ h)
 
--- the three cases
-decide-by : (P : Decision → Type 0) (n : ℕ) (v : Found) → (n < v .pieces → P (undecided n)) → (v .pieces ≤ n → v .survivor ≡ nothing → P (empty (v .pieces)))
+pub decide-by : (P : Decision → Type 0) (n : ℕ) (v : Found) → (n < v .pieces → P (undecided n))
+    → (v .pieces ≤ n → v .survivor ≡ nothing → P (empty (v .pieces)))
     → ((q : Cube) → v .pieces ≤ n → v .survivor ≡ piece q → P (member (v .pieces) q)) → P (decide n v)
 unfolding decide
 decide-by P n v u e m = go (leb (v .pieces) n) refl (v .survivor) refl

@@ -5,9 +5,9 @@
 --   capped-same              a number that is at most mostPieces stays
 -- Assumes nothing.
 use Prim.Native.Nat.{ℕ, _+_, _*_, _≤_}
-use native.Mathlib.Nat.{suc-mul, one-mul, mul-le-mul-right, le-refl, le-add-right}
+use native.Mathlib.Nat.{suc-mul, one-mul, mul-le-mul-right, le-refl}
 use native.Mathlib.Omega.{arith}
-use mathlib.Core.Path.{_≡_, refl, sym, _∙_}
+use mathlib.Core.Path.{_≡_, refl}
 use mathlib.Core.List.{List, [], _∷_, map}
 use mathlib.Core.Bool.{Bool, true, false, _&&_, cond, true≢false, false≢true}
 use lib.Dec.{leb}
@@ -16,22 +16,19 @@ use borrow.Author.Tests.{leb-true, leb-false}
 use Rattle.model.specs.Cube.{Code, none, v0, v1, free, Cube, meetCode, coded, shares}
 use Rattle.model.specs.Difference.{Difference}
 use Rattle.model.specs.Sized.{All}
-use Rattle.model.specs.Walk.{opens, other, children, Survivor, nothing, piece, Found, joined, inTurn, counted, visit, walk}
+use Rattle.model.specs.Walk.{opens, other, children, Found, inTurn, visit, walk}
 use Rattle.model.specs.Ceiling.{frees, ceilingFrom, ceiling, mostPieces, capped}
 use Rattle.model.proofs.Bools.{and-left, and-right}
+use Rattle.model.proofs.Turns.{visit-by, next-at-most}
 use Rattle.model.proofs.Parts.{Part, done, keep, fix, part-self, part-trans, wider-shares, children-part}
 
 -- walks one after another, each of at most so many pieces
-joined-count : (n : ℕ) (s : Survivor) (v : Found) → joined n s v .pieces ≤ n + v .pieces
-joined-count n nothing v = le-refl _
-joined-count n (piece p) v = le-add-right n _
-
 turn-count : {A : Type 0} (f : A → Found) (most : ℕ) (P : A → Type 0) → ((x : A) → P x → f x .pieces ≤ most) → (xs : List A) → All P xs → inTurn f xs .pieces ≤ length xs * most
 turn-count f most P t [] a = omega arith
 turn-count f most P t (x ∷ xs) a =
     let one = t x (a .0) in
     let rest = turn-count f most P t xs (a .1) in
-    rw suc-mul (omega (arith, joined-count (f x .pieces) (f x .survivor) (inTurn f xs)))
+    rw suc-mul (omega (arith, next-at-most (f x) (inTurn f xs)))
 
 -- the pieces to visit are at most as many as the positions that the cut frees of the base
 opened-count : (x y : Code) (p c : Cube) → length (children (x ∷ p) (y ∷ c)) ≡ cond (opens x y) 1 0 + length (children p c)
@@ -86,21 +83,22 @@ clash-frees (fix {x = x} {q = p} {p = b} d s) (y ∷ c) e f = go (coded (meetCod
     go false m ih e = rw (clash-opens x y d (and-left (coded y) (shares b c) f) m) (omega arith)
 
 part-at-most : (b : Cube) (cs : List Cube) (p : Cube) → Part p b → visit cs p .pieces ≤ ceilingFrom b cs
-unfolding visit ceilingFrom
-part-at-most b [] p s = omega arith
-part-at-most b (c ∷ cs) p s = go (shares p c) (shares b c) refl refl (part-at-most b cs)
+unfolding ceilingFrom
+part-at-most b =
+    visit-by (λ cs p v. Part p b → v .pieces ≤ ceilingFrom b cs)
+    (λ p s. omega arith)
+    (λ c cs p m ih s.
+    let t = turn-count (visit cs) (ceilingFrom b cs) (λ x. Part x p) (λ x r. ih x (part-trans r s)) (children p c) (children-part p c) in
+    let u = mul-le-mul-right (ceilingFrom b cs) (children-count s c) in
+    rw (wider-shares s c m) (omega arith))
+    (λ c cs p m ih s. passed c cs p s m (ih s) (shares b c) refl)
   where
-    go : (g k : Bool) → shares p c ≡ g → shares b c ≡ k → ((x : Cube) → Part x b → visit cs x .pieces ≤ ceilingFrom b cs)
-        → cond g (counted (inTurn (visit cs) (children p c))) (visit cs p) .pieces ≤ cond k (1 + frees b c * ceilingFrom b cs) (ceilingFrom b cs)
-    go true true m n ih =
-        let t = turn-count (visit cs) (ceilingFrom b cs) (λ x. Part x p) (λ x r. ih x (part-trans r s)) (children p c) (children-part p c) in
-        let u = mul-le-mul-right (ceilingFrom b cs) (children-count s c) in
-        omega arith
-    go true false m n ih = absurd (true≢false (sym (wider-shares s c m) ∙ n))
-    go false true m n ih =
+    passed : (c : Cube) (cs : List Cube) (p : Cube) → Part p b → shares p c ≡ false → visit cs p .pieces ≤ ceilingFrom b cs → (k : Bool) → shares b c ≡ k
+        → visit cs p .pieces ≤ cond k (1 + frees b c * ceilingFrom b cs) (ceilingFrom b cs)
+    passed c cs p s m ih true n =
         let t = mul-le-mul-right (ceilingFrom b cs) (clash-frees s c m n) in
-        omega (arith, ih p s, rw one-mul at t)
-    go false false m n ih = ih p s
+        omega (arith, rw one-mul at t)
+    passed c cs p s m ih false n = ih
 
 pub pieces-at-most-ceiling : (d : Difference) → walk d .pieces ≤ ceiling d
 pieces-at-most-ceiling d = part-at-most (d .base) (d .cuts) (d .base) (part-self (d .base))

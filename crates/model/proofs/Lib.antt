@@ -2,9 +2,11 @@
 pub mod Bools
 pub mod Cubes
 pub mod Parts
+pub mod Turns
 pub mod Padding
 pub mod Tidying
 pub mod Setting
+pub mod PaddedOperations
 pub mod Field
 pub mod Slips
 pub mod Walking

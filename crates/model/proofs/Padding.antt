@@ -2,22 +2,24 @@
 --   Lengths w cs        every cube of cs has w positions
 --   sized-lengths       cubes of w positions have them
 --   meet-pad, solid-pad, shares-pad, same-pad, within-pad, holds-pad, frees-pad    each test and operation on cubes
---   children-pad, visit-pad    the walk
+--   children-pad, next-pad, in-turn-pad, visit-pad    the walk
 --   tidy-pad            tidying
 --   ceiling-pad         the ceiling
 use Prim.Native.Nat.{ℕ, zero, suc, _+_}
 use native.Mathlib.Omega.{arith}
 use mathlib.Core.Path.{_≡_, refl, sym, ap, ap₂, _∙_}
-use mathlib.Core.List.{List, [], _∷_, _++_, map}
+use mathlib.Core.List.{List, [], _∷_, _++_, map, map-append}
 use mathlib.Core.Bool.{Bool, true, false, _&&_, _||_, cond}
 use lib.ListN.{length, replicate}
 use Rattle.model.specs.Cube.{Header, Code, free, Cube, admits, holds, meetCode, meet, coded, solid, shares, sameCode, same, within}
 use Rattle.model.specs.Difference.{Region}
 use Rattle.model.specs.Sized.{All, Sized}
 use Rattle.model.specs.Tidy.{among, tidyFrom}
-use Rattle.model.specs.Walk.{opens, other, children, Survivor, nothing, piece, Found, joined, next, inTurn, counted, visit}
+use Rattle.model.specs.Walk.{opens, other, children, Found, next, inTurn, visited, visit}
 use Rattle.model.specs.Ceiling.{frees, ceilingFrom}
-use Rattle.model.specs.Padding.{pad, padSurvivor, padFound, padDifference}
+use Rattle.model.specs.Padding.{pad, padFound, padDifference}
+use Rattle.model.proofs.Tidying.{all-append}
+use Rattle.model.proofs.Turns.{visit-none, visit-met, visit-passed, visit-by, next-by}
 use Rattle.model.proofs.Parts.{children-length}
 use Rattle.model.proofs.Cubes.{length-meet}
 
@@ -90,25 +92,25 @@ children-pad u (x ∷ p) (y ∷ c) e = go (opens x y) (children-pad u p c (omega
     go true ih = ap (λ (l : List Cube). (other y ∷ pad u p) ∷ l) (ap (map (λ q. y ∷ q)) ih ∙ map-cons u y (children p c))
     go false ih = ap (map (λ q. x ∷ q)) ih ∙ map-cons u x (children p c)
 
-next-pad : (u n : ℕ) (s : Survivor) (v : Found) → joined n (padSurvivor u s) (padFound u v) ≡ padFound u (joined n s v)
-next-pad u n nothing v = refl
-next-pad u n (piece p) v = refl
+pub next-pad : (u : ℕ) (a b : Found) → next (padFound u a) (padFound u b) ≡ padFound u (next a b)
+next-pad u a b = next-by (λ v. next (padFound u a) (padFound u b) ≡ padFound u v) a b (λ e. rw e) (λ q e. rw e)
 
-module _ (u w : ℕ) (f g : Cube → Found) (e : (q : Cube) → length q ≡ w → g (pad u q) ≡ padFound u (f q)) where
-  in-turn-pad : (qs : List Cube) → Lengths w qs → inTurn g (map (pad u) qs) ≡ padFound u (inTurn f qs)
+module _ {A : Type 0} (u : ℕ) (P : A → Type 0) (h : A → A) (f g : A → Found) (e : (x : A) → P x → g (h x) ≡ padFound u (f x)) where
+  pub in-turn-pad : (xs : List A) → All P xs → inTurn g (map h xs) ≡ padFound u (inTurn f xs)
   in-turn-pad [] l = refl
-  in-turn-pad (q ∷ qs) l = ap₂ next (e q (l .0)) (in-turn-pad qs (l .1)) ∙ next-pad u (f q .pieces) (f q .survivor) (inTurn f qs)
+  in-turn-pad (x ∷ xs) l = ap₂ next (e x (l .0)) (in-turn-pad xs (l .1)) ∙ next-pad u (f x) (inTurn f xs)
 
 pub visit-pad : (u w : ℕ) (cs : List Cube) (p : Cube) → Lengths w cs → length p ≡ w → visit (map (pad u) cs) (pad u p) ≡ padFound u (visit cs p)
-unfolding visit
-visit-pad u w [] p l e = refl
-visit-pad u w (c ∷ cs) p l e =
-    rw (shares-pad u p c (e ∙ sym (l .0)), children-pad u p c (e ∙ sym (l .0)), visit-pad u w cs p (l .1) e, in-turn-pad u w (visit cs) (visit (map (pad u) cs)) (λ q h. visit-pad u w cs q (l .1) h) (children p c) (rw e at (children-length p c)))
-    (go (shares p c))
-  where
-    go : (b : Bool) → cond b (counted (padFound u (inTurn (visit cs) (children p c)))) (padFound u (visit cs p)) ≡ padFound u (cond b (counted (inTurn (visit cs) (children p c))) (visit cs p))
-    go true = refl
-    go false = refl
+visit-pad u w =
+    visit-by (λ cs p v. Lengths w cs → length p ≡ w → visit (map (pad u) cs) (pad u p) ≡ padFound u v)
+    (λ p l e. visit-none (pad u p))
+    (λ c cs p m ih l e.
+    let k = e ∙ sym (l .0) in
+    visit-met (pad u c) (map (pad u) cs) (pad u p) (shares-pad u p c k ∙ m)
+    ∙ rw (children-pad u p c k)
+    (ap visited
+    (in-turn-pad u (λ q. length q ≡ w) (pad u) (visit cs) (visit (map (pad u) cs)) (λ q h. ih q (l .1) h) (children p c) (rw e at (children-length p c)))))
+    (λ c cs p m ih l e. visit-passed (pad u c) (map (pad u) cs) (pad u p) (shares-pad u p c (e ∙ sym (l .0)) ∙ m) ∙ ih (l .1) e)
 
 -- the ceiling
 free-frees : (u : ℕ) → frees (replicate u free) (replicate u free) ≡ 0
@@ -133,14 +135,6 @@ among-pad : (u w : ℕ) (c : Cube) (ks : List Cube) → length c ≡ w → Lengt
 among-pad u w c [] e l = refl
 among-pad u w c (k ∷ ks) e l = ap₂ (λ (a b : Bool). a || b) (same-pad u c k (e ∙ sym (l .0))) (among-pad u w c ks e (l .1))
 
-map-snoc : (u : ℕ) (ks : List Cube) (c : Cube) → map (pad u) (ks ++ (c ∷ [])) ≡ map (pad u) ks ++ (pad u c ∷ [])
-map-snoc u [] c = refl
-map-snoc u (k ∷ ks) c = ap (λ (l : List Cube). pad u k ∷ l) (map-snoc u ks c)
-
-lengths-snoc : (w : ℕ) (ks : List Cube) (c : Cube) → Lengths w ks → length c ≡ w → Lengths w (ks ++ (c ∷ []))
-lengths-snoc w [] c l e = (e, tt)
-lengths-snoc w (k ∷ ks) c l e = (l .0, lengths-snoc w ks c (l .1) e)
-
 pub tidy-pad : (u w : ℕ) (base : Cube) (kept cuts : List Cube) → length base ≡ w → Lengths w kept → Lengths w cuts
     → tidyFrom (pad u base) (map (pad u) kept) (map (pad u) cuts) ≡ map (padDifference u) (tidyFrom base kept cuts)
 unfolding tidyFrom
@@ -148,8 +142,16 @@ tidy-pad u w base kept [] e k l = refl
 tidy-pad u w base kept (c ∷ cuts) e k l =
     let ec = e ∙ sym (l .0) in
     let em = length-meet base c ec ∙ e in
-    let more = tidy-pad u w base (kept ++ (meet base c ∷ [])) cuts e (lengths-snoc w kept (meet base c) k em) (l .1) in
-    rw (shares-pad u base c ec, meet-pad u base c ec, same-pad u (meet base c) base (em ∙ sym e), among-pad u w (meet base c) kept em k, tidy-pad u w base kept cuts e k (l .1), ← map-snoc u kept (meet base c), more)
+    let more = tidy-pad u w base (kept ++ (meet base c ∷ [])) cuts e (all-append (λ c. length c ≡ w) kept (meet base c ∷ []) k (em, tt)) (l .1) in
+    rw (
+      shares-pad u base c ec,
+      meet-pad u base c ec,
+      same-pad u (meet base c) base (em ∙ sym e),
+      among-pad u w (meet base c) kept em k,
+      tidy-pad u w base kept cuts e k (l .1),
+      ← map-append (pad u) kept (meet base c ∷ []),
+      more,
+    )
     (go (shares base c) (same (meet base c) base) (among (meet base c) kept))
   where
     P : Region → Region

@@ -7,6 +7,7 @@
 --   SolidBases r     the base of each difference of r has no `none`
 --   region-survivor-in, region-survivor-shown, region-nothing-in   the same for a region
 --   walk-positive    a visit counts at least one piece
+--   walk-sized, region-sized   cubes of w positions have survivors of w positions
 -- Assumes nothing.
 use Prim.Native.Nat.{ℕ, _≤_}
 use native.Mathlib.Omega.{arith}
@@ -15,11 +16,12 @@ use mathlib.Core.List.{List, [], _∷_, map}
 use mathlib.Core.Bool.{Bool, true, false, not, _&&_, _||_, cond, or-true, and-false, and-or-distrib-left, and-or-distrib-right}
 use lib.ListN.{length}
 use Rattle.model.specs.Cube.{Header, Code, none, v0, v1, free, Cube, admits, holds, meetCode, coded, solid, shares, shown}
-use Rattle.model.specs.Difference.{less, Region, anyHolds, inDifference, inRegion}
-use Rattle.model.specs.Sized.{All}
-use Rattle.model.specs.Walk.{opens, other, children, Survivor, nothing, piece, Found, joined, inTurn, counted, visit, walk, walkRegion}
+use Rattle.model.specs.Difference.{Difference, less, Region, anyHolds, inDifference, inRegion}
+use Rattle.model.specs.Sized.{All, Sized, Good}
+use Rattle.model.specs.Walk.{opens, other, children, nothing, piece, Found, inTurn, visit, walk, walkRegion}
 use Rattle.model.proofs.Bools.{and-left, and-right}
 use Rattle.model.proofs.Cubes.{in-shown, apart-none}
+use Rattle.model.proofs.Turns.{visit-by, next-by, turn-survivor}
 use Rattle.model.proofs.Parts.{Part, part-self, part-trans, part-solid, part-length, children-part}
 
 -- the headers of cubes that begin alike
@@ -97,43 +99,25 @@ in-passed c cs p h e = less-more (holds p h) (holds c h) (anyHolds cs h) ∙ rw 
 module _ {A : Type 0} (f : A → Found) (one : A → Bool) (any : List A → Bool) (more : (x : A) (xs : List A) → any (x ∷ xs) ≡ one x || any xs) where
   turn-in : (q : Cube) → ((x : A) → f x .survivor ≡ piece q → one x ≡ true) → (xs : List A) → inTurn f xs .survivor ≡ piece q → any xs ≡ true
   turn-in q t [] e = cc
-  turn-in q t (x ∷ xs) e = more x xs ∙ go (f x .survivor) (t x) (turn-in q t xs) e
-    where
-      go : (s : Survivor) → (s ≡ piece q → one x ≡ true) → (inTurn f xs .survivor ≡ piece q → any xs ≡ true) → joined (f x .pieces) s (inTurn f xs) .survivor ≡ piece q
-          → one x || any xs ≡ true
-      go nothing a b e = rw (b e) (or-true (one x))
-      go (piece r) a b e = rw (a e)
+  turn-in q t (x ∷ xs) e =
+      more x xs
+      ∙ next-by (λ v. v .survivor ≡ piece q → one x || any xs ≡ true) (f x) (inTurn f xs)
+      (λ n l. rw (turn-in q t xs l) (or-true (one x))) (λ r n l. rw (t x l)) e
 
   turn-out : any [] ≡ false → ((x : A) → f x .survivor ≡ nothing → one x ≡ false) → (xs : List A) → inTurn f xs .survivor ≡ nothing → any xs ≡ false
-  turn-out n t [] e = n
-  turn-out n t (x ∷ xs) e = more x xs ∙ go (f x .survivor) (t x) (turn-out n t xs) e
-    where
-      go : (s : Survivor) → (s ≡ nothing → one x ≡ false) → (inTurn f xs .survivor ≡ nothing → any xs ≡ false) → joined (f x .pieces) s (inTurn f xs) .survivor ≡ nothing
-          → one x || any xs ≡ false
-      go nothing a b e = rw (a refl) (b e)
-      go (piece r) a b e = cc
-
--- the survivor of walks one after another is that of one
-turn-survivor : {A : Type 0} (f : A → Found) (q : Cube) (P : A → Type 0) (Q : Type 0) → ((x : A) → P x → f x .survivor ≡ piece q → Q) → (xs : List A) → All P xs
-    → inTurn f xs .survivor ≡ piece q → Q
-turn-survivor f q P Q t [] a e = let z : _≡_ {A = ℕ} 0 1 = cc in absurd (omega arith)
-turn-survivor f q P Q t (x ∷ xs) a e = go (f x .survivor) (t x (a .0)) (turn-survivor f q P Q t xs (a .1)) e
-  where
-    go : (s : Survivor) → (s ≡ piece q → Q) → (inTurn f xs .survivor ≡ piece q → Q) → joined (f x .pieces) s (inTurn f xs) .survivor ≡ piece q → Q
-    go nothing a b e = b e
-    go (piece r) a b e = a e
+  turn-out z t [] e = z
+  turn-out z t (x ∷ xs) e =
+      more x xs
+      ∙ next-by (λ v. v .survivor ≡ nothing → one x || any xs ≡ false) (f x) (inTurn f xs)
+      (λ n l. rw (t x n) (turn-out z t xs l)) (λ r n l. cc) e
 
 -- one visit: what survives is a part of the piece
 survivor-part : (cs : List Cube) (p q : Cube) → visit cs p .survivor ≡ piece q → Part q p
-unfolding visit
-survivor-part [] p q e = let z : p ≡ q = cc in subst (λ (r : Cube). Part r p) z (part-self p)
-survivor-part (c ∷ cs) p q e = go (shares p c) (λ x. survivor-part cs x q) e
-  where
-    go : (g : Bool) → ((x : Cube) → visit cs x .survivor ≡ piece q → Part q x)
-        → cond g (counted (inTurn (visit cs) (children p c))) (visit cs p) .survivor ≡ piece q → Part q p
-    go true ih e =
-        turn-survivor (visit cs) q (λ x. Part x p) (Part q p) (λ x s f. part-trans (ih x f) s) (children p c) (children-part p c) e
-    go false ih e = ih p e
+survivor-part cs p q =
+    visit-by (λ cs p v. v .survivor ≡ piece q → Part q p)
+    (λ p e. let z : p ≡ q = cc in subst (λ (r : Cube). Part r p) z (part-self p))
+    (λ c cs p m ih. turn-survivor (visit cs) q (λ x. Part x p) (Part q p) (λ x s f. part-trans (ih x f) s) (children p c) (children-part p c))
+    (λ c cs p m ih. ih) cs p
 
 pub survivor-solid : (cs : List Cube) (p q : Cube) → solid p ≡ true → visit cs p .survivor ≡ piece q → solid q ≡ true
 survivor-solid cs p q s e = part-solid (survivor-part cs p q e) s
@@ -142,42 +126,37 @@ pub survivor-length : (cs : List Cube) (p q : Cube) → visit cs p .survivor ≡
 survivor-length cs p q e = part-length (survivor-part cs p q e)
 
 pub survivor-in : (cs : List Cube) (p q : Cube) → visit cs p .survivor ≡ piece q → (h : Header) → holds q h ≡ true → inDifference (less p cs) h ≡ true
-unfolding visit
-survivor-in [] p q e h i = let z : p ≡ q = cc in rw (z, i)
-survivor-in (c ∷ cs) p q e h i = go (shares p c) refl (λ x f. survivor-in cs x q f h i) e
-  where
-    go : (g : Bool) → shares p c ≡ g → ((x : Cube) → visit cs x .survivor ≡ piece q → inDifference (less x cs) h ≡ true)
-        → cond g (counted (inTurn (visit cs) (children p c))) (visit cs p) .survivor ≡ piece q → inDifference (less p (c ∷ cs)) h ≡ true
-    go true m ih e =
-        in-met c cs p h m
-        ∙ turn-in (visit cs) (λ x. inDifference (less x cs) h) (λ xs. anyHolds xs h && not (anyHolds cs h))
-        (λ x xs. and-or-distrib-right (holds x h) (anyHolds xs h) (not (anyHolds cs h))) q ih (children p c) e
-    go false m ih e = in-passed c cs p h m ∙ ih p e
+survivor-in cs p q e h i =
+    visit-by (λ cs p v. v .survivor ≡ piece q → inDifference (less p cs) h ≡ true)
+    (λ p e. let z : p ≡ q = cc in rw (z, i))
+    (λ c cs p m ih e.
+    in-met c cs p h m
+    ∙ turn-in (visit cs) (λ x. inDifference (less x cs) h) (λ xs. anyHolds xs h && not (anyHolds cs h))
+    (λ x xs. and-or-distrib-right (holds x h) (anyHolds xs h) (not (anyHolds cs h))) q ih (children p c) e)
+    (λ c cs p m ih e. in-passed c cs p h m ∙ ih e) cs p e
 
 pub survivor-shown : (cs : List Cube) (p q : Cube) → solid p ≡ true → visit cs p .survivor ≡ piece q → inDifference (less p cs) (shown q) ≡ true
 survivor-shown cs p q s e = survivor-in cs p q e (shown q) (in-shown q (survivor-solid cs p q s e))
 
 pub nothing-in : (cs : List Cube) (p : Cube) → visit cs p .survivor ≡ nothing → (h : Header) → inDifference (less p cs) h ≡ false
-unfolding visit
-nothing-in [] p e h = cc
-nothing-in (c ∷ cs) p e h = go (shares p c) refl (λ x f. nothing-in cs x f h) e
-  where
-    go : (g : Bool) → shares p c ≡ g → ((x : Cube) → visit cs x .survivor ≡ nothing → inDifference (less x cs) h ≡ false)
-        → cond g (counted (inTurn (visit cs) (children p c))) (visit cs p) .survivor ≡ nothing → inDifference (less p (c ∷ cs)) h ≡ false
-    go true m ih e =
-        in-met c cs p h m
-        ∙ turn-out (visit cs) (λ x. inDifference (less x cs) h) (λ xs. anyHolds xs h && not (anyHolds cs h))
-        (λ x xs. and-or-distrib-right (holds x h) (anyHolds xs h) (not (anyHolds cs h))) refl ih (children p c) e
-    go false m ih e = in-passed c cs p h m ∙ ih p e
+nothing-in cs p e h =
+    visit-by (λ cs p v. v .survivor ≡ nothing → inDifference (less p cs) h ≡ false)
+    (λ p e. cc)
+    (λ c cs p m ih e.
+    in-met c cs p h m
+    ∙ turn-out (visit cs) (λ x. inDifference (less x cs) h) (λ xs. anyHolds xs h && not (anyHolds cs h))
+    (λ x xs. and-or-distrib-right (holds x h) (anyHolds xs h) (not (anyHolds cs h))) refl ih (children p c) e)
+    (λ c cs p m ih e. in-passed c cs p h m ∙ ih e) cs p e
 
 pub walk-positive : (cs : List Cube) (p : Cube) → 1 ≤ visit cs p .pieces
-unfolding visit
-walk-positive [] p = omega arith
-walk-positive (c ∷ cs) p = go (shares p c) (walk-positive cs p)
-  where
-    go : (g : Bool) → 1 ≤ visit cs p .pieces → 1 ≤ cond g (counted (inTurn (visit cs) (children p c))) (visit cs p) .pieces
-    go true ih = omega arith
-    go false ih = ih
+walk-positive = visit-by (λ cs p v. 1 ≤ v .pieces) (λ p. omega arith) (λ c cs p m ih. omega arith) (λ c cs p m ih. ih)
+
+pub walk-sized : (w : ℕ) (d : Difference) → Good w d → (q : Cube) → walk d .survivor ≡ piece q → Sized w q
+walk-sized w d g q e =
+    record {
+      wide = survivor-length (d .cuts) (d .base) q e ∙ g .base .wide;
+      filled = survivor-solid (d .cuts) (d .base) q (g .base .filled) e;
+    }
 
 -- a region
 abbrev pub SolidBases : Region → Type 0
@@ -193,3 +172,6 @@ region-survivor-shown r q s e =
 
 pub region-nothing-in : (r : Region) → walkRegion r .survivor ≡ nothing → (h : Header) → inRegion r h ≡ false
 region-nothing-in r e h = turn-out walk (λ d. inDifference d h) (λ r. inRegion r h) (λ d r. refl) refl (λ d f. nothing-in (d .cuts) (d .base) f h) r e
+
+pub region-sized : (w : ℕ) (r : Region) → All (Good w) r → (q : Cube) → walkRegion r .survivor ≡ piece q → Sized w q
+region-sized w r g q = turn-survivor walk q (Good w) (Sized w q) (λ d k. walk-sized w d k q) r g

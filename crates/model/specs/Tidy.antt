@@ -2,7 +2,7 @@
 --   among c ks            == c equals one of the cuts ks
 --   tidyFrom b ks cs      == the base b with the cuts ks kept already and the cuts cs to take: one difference, or none where it is omitted
 --   tidy d                == d tidied: one difference or none
---   each f r              == the regions that f makes of the differences of r, one after another
+--   each f xs             == the regions that f makes of xs, one after another
 --   tidyRegion r          == r with each difference tidied
 -- Assumes nothing: these are definitions.
 use mathlib.Core.List.{List, [], _∷_, _++_}
@@ -28,9 +28,9 @@ tidyFrom base kept (c ∷ cuts) =
 abbrev pub tidy : Difference → Region
 tidy d = tidyFrom (d .base) [] (d .cuts)
 
-abbrev pub each : (Difference → Region) → Region → Region
+abbrev pub each : {A : Type 0} → (A → Region) → List A → Region
 each f [] = []
-each f (d ∷ r) = f d ++ each f r
+each f (x ∷ xs) = f x ++ each f xs
 
 -- "tidying a region does this to each difference"
 abbrev pub tidyRegion : Region → Region

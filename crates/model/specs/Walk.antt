@@ -7,7 +7,7 @@
 --   joined n s v    == a walk of n pieces that came to s, and then v if that is nothing
 --   next u v        == the walk u, and then v if nothing survived in u
 --   inTurn f xs     == the walks f of xs, one after another up to the first survivor
---   counted v       == the walk v with one piece more before it
+--   visited v       == the walk v with one piece more before it
 --   visit cs p      == to visit the piece p with the cuts cs left
 --   walk d          == the walk of a difference
 --   walkRegion r    == the walk of a region, difference by difference
@@ -68,8 +68,8 @@ inTurn f [] = record { pieces = 0; survivor = nothing }
 inTurn f (x ∷ xs) = next (f x) (inTurn f xs)
 
 -- "count one": a visit before what follows of it
-abbrev pub counted : Found → Found
-counted v = record { pieces = 1 + v .pieces; survivor = v .survivor }
+abbrev pub visited : Found → Found
+visited v = record { pieces = 1 + v .pieces; survivor = v .survivor }
 
 -- "To visit a piece with cuts left: count one. With no cuts left, the piece survives .. Otherwise look at the next cut. If it shares no header with the
 -- piece, pass to the next cut, same visit. .. with the cuts after. No such position means the piece is covered." .. "The walk calls itself on the
@@ -77,7 +77,7 @@ counted v = record { pieces = 1 + v .pieces; survivor = v .survivor }
 unfoldable pub visit : List Cube → Cube → Found
 visit [] p = record { pieces = 1; survivor = piece p }
 visit (c ∷ cs) p =
-    let met = counted (inTurn (visit cs) (children p c)) in
+    let met = visited (inTurn (visit cs) (children p c)) in
     let passed = visit cs p in
     cond (shares p c) met passed
 

@@ -30,8 +30,8 @@ use Rattle.format.specs.Records.{widthOf, differenceAt, differenceBytes, fileBy
 use Rattle.format.specs.Files.{regionIn}
 use Rattle.format.specs.Told.{Told, silent, wide, lentCube, lentRecord, lentFile, lentBits, yesOr, writing, writingRegion, deciding, walking}
 use Rattle.format.specs.Calls.{cube-meet, cube-in, wider-number, diff-member, region-member, region-tidy, diff-intersect, region-intersect, diff-less, region-less, diff-empty, region-empty, diff-in, ceiling-of, prefix, equal-fields, question}
-use Rattle.format.proofs.Reached.{reached}
-use Rattle.format.proofs.Refusals.{lent-refusal, record-refusal, file-refusal, past}
+use Rattle.format.proofs.Reached.{reached, past}
+use Rattle.format.proofs.Refusals.{lent-refusal, record-refusal, file-refusal}
 use Rattle.format.proofs.Coding.{lent-length, read-length, write-length}
 use Rattle.format.proofs.Heading.{length-bits}
 use Rattle.format.proofs.Filing.{file-of}

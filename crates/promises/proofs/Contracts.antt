@@ -5,6 +5,7 @@ use mathlib.Core.Path.{_≡_}
 use lib.ListN.{length}
 use denote.Ref.{now}
 use Rattle.format.specs.Calls.{cube-meet, cube-in, wider-number, diff-member, region-member, region-tidy, diff-intersect, region-intersect, diff-less, region-less, view, read-on, diff-empty, region-empty, diff-in, ceiling-of, prefix, equal-fields}
+use Rattle.format.specs.Told.{Permitted}
 use Rattle.cube.specs.Call.{WiderIs}
 use Rattle.region.specs.Viewing.{StretchIs, stepped}
 use Rattle.cube.proofs.cube_meet.Kinds as cube-meet-kinds
@@ -45,10 +46,10 @@ use Rattle.algebra.proofs.diff_less.Kinds as diff-less-kinds
 use Rattle.algebra.proofs.diff_less.Reads as diff-less-contract
 use Rattle.algebra.proofs.region_less.Kinds as region-less-kinds
 use Rattle.algebra.proofs.region_less.Reads as region-less-contract
-use Rattle.algebra.proofs.prefix.Kinds as prefix-kinds
-use Rattle.algebra.proofs.prefix.Reads as prefix-contract
-use Rattle.algebra.proofs.equal_fields.Kinds as equal-fields-kinds
-use Rattle.algebra.proofs.equal_fields.Reads as equal-fields-contract
+use Rattle.fields.proofs.prefix.Kinds as prefix-kinds
+use Rattle.fields.proofs.prefix.Reads as prefix-contract
+use Rattle.fields.proofs.equal_fields.Kinds as equal-fields-kinds
+use Rattle.fields.proofs.equal_fields.Reads as equal-fields-contract
 use Rattle.broker.proofs.permit_member.Kinds as permit-member-kinds
 use Rattle.broker.proofs.permit_member.Reads as permit-member-contract
 use Rattle.broker.proofs.permit_empty.Kinds as permit-empty-kinds
@@ -74,11 +75,11 @@ pub use Rattle.algebra.proofs.diff_intersect.Met.{met as diff-intersect-met}
 pub use Rattle.algebra.proofs.region_intersect.Met.{met as region-intersect-met}
 pub use Rattle.algebra.proofs.diff_less.Met.{met as diff-less-met}
 pub use Rattle.algebra.proofs.region_less.Met.{met as region-less-met}
-pub use Rattle.algebra.proofs.prefix.Met.{met as prefix-met}
-pub use Rattle.algebra.proofs.equal_fields.Met.{met as equal-fields-met}
+pub use Rattle.fields.proofs.prefix.Met.{met as prefix-met}
+pub use Rattle.fields.proofs.equal_fields.Met.{met as equal-fields-met}
 pub use Rattle.broker.proofs.permit_member.Met.{met as permit-member-met}
 pub use Rattle.broker.proofs.permit_empty.Met.{met as permit-empty-met}
-use Rattle.promises.specs.Outcome.{Permitted, Promise}
+use Rattle.promises.specs.Outcome.{Promise}
 
 -- cube
 pub cube-meet-promise : Promise 3 cube-meet-kinds.ps cube-meet-kinds.r cube-meet-contract.Asked cube-meet-contract.Learnt
@@ -160,6 +161,7 @@ pub region-less-promise : Promise 3 region-less-kinds.ps region-less-kinds.r reg
     (λ κs a x e. Permitted (region-less (now (a .0)) (now (a .1 .0)) (length (now (a .1 .1 .0)))) (now (a .1 .1 .0)) x (now (e .1 .1 .0)))
 region-less-promise = record { anything = λ κs a. tt; permits = λ κs a x e l. record { answer = l .0; buffer = l .1 } }
 
+-- fields
 pub prefix-promise : Promise 2 prefix-kinds.ps prefix-kinds.r prefix-contract.Asked prefix-contract.Learnt
     (λ κs a x e. Permitted (prefix (a .0) (a .1 .0) (a .1 .1 .0) (a .1 .1 .1 .0) (now (a .1 .1 .1 .1 .0)) (length (now (a .1 .1 .1 .1 .1 .0)))) (now (a .1 .1 .1 .1 .1 .0)) x (now (e .1 .1 .1 .1 .1 .0)))
 prefix-promise = record { anything = λ κs a. tt; permits = λ κs a x e l. record { answer = l .0; buffer = l .1 } }

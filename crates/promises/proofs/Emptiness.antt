@@ -1,7 +1,7 @@
 -- Demand 3 of the calls that walk. Assumes nothing.
 --   diff-empty-decides, region-empty-decides, diff-in-decides    so each of them does
 --   region-at-most-ceilings, in-at-most-ceilings    the count of a region's walk, and of inclusion's, is never above those of what is walked
-use Prim.Native.Nat.{ℕ, _+_, _≤_, _<_}
+use Prim.Native.Nat.{ℕ, _≤_, _<_}
 use native.Mathlib.Omega.{arith}
 use mathlib.Core.Path.{_≡_, refl, sym, _∙_}
 use mathlib.Core.List.{List, [], _∷_}
@@ -11,8 +11,8 @@ use borrow.Author.Tests.{leb-true, leb-false}
 use Rattle.model.specs.Cube.{Header}
 use Rattle.model.specs.Difference.{Region, inDifference, inRegion}
 use Rattle.model.specs.Algebra.{subtraction}
-use Rattle.model.specs.Walk.{Survivor, nothing, piece, Found, joined, walk, walkRegion, walkInclusion, Decision, undecided, empty, member, countOf, decided, decide}
-use Rattle.model.specs.Ceiling.{ceiling}
+use Rattle.model.specs.Walk.{Survivor, nothing, piece, Found, walk, walkRegion, walkInclusion, Decision, undecided, empty, member, countOf, decided, decide}
+use Rattle.model.proofs.Turns.{next-at-most}
 use Rattle.model.proofs.Bound.{pieces-at-most-ceiling}
 use Rattle.model.proofs.Allowed.{decided-when, undecided-when}
 use Rattle.model.proofs.Bools.{less-none, none-less}
@@ -25,7 +25,7 @@ use Rattle.format.specs.Calls.{diff-empty, region-empty, diff-in}
 use Rattle.format.specs.Meaning.{Shown, Lent}
 use Rattle.format.proofs.Asking.{count-told}
 use Rattle.format.proofs.Deciding.{empty-yes, empty-yes-when, empty-no, empty-undecided, empty-undecided-when, empty-count, region-yes, region-yes-when, region-no, region-undecided, region-undecided-when, region-count, in-yes, in-yes-when, in-no, in-undecided, in-undecided-when, in-count}
-use Rattle.promises.proofs.Quiet.{Mute, Ends, told-by}
+use Rattle.promises.proofs.Quiet.{Mute, LastLine, told-by}
 use Rattle.promises.specs.Accepted.{Accepted, Tells}
 use Rattle.promises.proofs.Answering.{diff-empty-answers, region-empty-answers, diff-in-answers}
 use Rattle.promises.specs.Decides.{Decides, ceilings}
@@ -103,11 +103,7 @@ diff-in-decides w s t n room =
 -- the ceilings of what is walked
 pieces-at-most-ceilings : (r : Region) → walkRegion r .pieces ≤ ceilings r
 pieces-at-most-ceilings [] = omega arith
-pieces-at-most-ceilings (d ∷ r) = go (walk d .survivor) (pieces-at-most-ceilings r)
-  where
-    go : (s : Survivor) → walkRegion r .pieces ≤ ceilings r → joined (walk d .pieces) s (walkRegion r) .pieces ≤ ceiling d + ceilings r
-    go nothing l = omega (arith, pieces-at-most-ceiling d)
-    go (piece p) l = omega (arith, pieces-at-most-ceiling d)
+pieces-at-most-ceilings (d ∷ r) = omega (arith, next-at-most (walk d) (walkRegion r), pieces-at-most-ceiling d, pieces-at-most-ceilings r)
 
 count-at-most-pieces : (w n : ℕ) (v : Found) → deciding w (decide n v) .answer .count ≤ v .pieces
 count-at-most-pieces w n v = rw (count-told w (decide n v)) (go (leb (v .pieces) n) refl)
@@ -120,7 +116,7 @@ count-at-most : (w n most : ℕ) (v : Found) → v .pieces ≤ most → deciding
 count-at-most w n most v l = omega (arith, count-at-most-pieces w n v)
 
 -- no more than that are counted by a table that ends so
-at-most : (most : ℕ) (k : Rows Told) → Mute k → Ends (λ x. x .answer .count ≤ most) k → outcome k .answer .count ≤ most
+at-most : (most : ℕ) (k : Rows Told) → Mute k → LastLine (λ x. x .answer .count ≤ most) k → outcome k .answer .count ≤ most
 at-most most = told-by (λ x. x .answer .count ≤ most) (λ x e f c. omega arith)
 
 pub region-at-most-ceilings : (s : List ℕ) (n room : ℕ) → region-empty s n room .answer .count ≤ ceilings (regionIn s)

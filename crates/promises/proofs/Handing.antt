@@ -118,18 +118,18 @@ module _ (s : List ℕ) (place : ℕ) where
   unfolding read-on
   read-on-wide f = sym (reached 0 _ f)
 
-  pub read-on-last : widthFault s ≡ 0 → startOf place ≡ length s → read-on s place ≡ stay (said 2) place
+  pub read-on-last : widthFault s ≡ 0 → startOf s place ≡ length s → read-on s place ≡ stay (said 2) place
   unfolding read-on
   read-on-last w e = sym (reached 1 _ (w, e))
 
-  pub read-on-refused : widthFault s ≡ 0 → (startOf place ≡ length s → ⊥) → (differenceFault false (widthOf s) 0 s (startOf place) ≡ 0 → ⊥)
-      → read-on s place ≡ stay (fault (differenceFault false (widthOf s) 0 s (startOf place)) 1 (startOf place)) place
+  pub read-on-refused : widthFault s ≡ 0 → (startOf s place ≡ length s → ⊥) → (differenceFault false (widthOf s) 0 s (startOf s place) ≡ 0 → ⊥)
+      → read-on s place ≡ stay (fault (differenceFault false (widthOf s) 0 s (startOf s place)) 1 (startOf s place)) place
   unfolding read-on
   read-on-refused w e f = sym (reached 2 _ (w, (e, f)))
 
-  pub read-on-next : widthFault s ≡ 0 → differenceFault false (widthOf s) 0 s (startOf place) ≡ 0
-      → read-on s place ≡ record { answer = placed (startOf place); place = nextAt s (startOf place) }
+  pub read-on-next : widthFault s ≡ 0 → differenceFault false (widthOf s) 0 s (startOf s place) ≡ 0
+      → read-on s place ≡ record { answer = placed (startOf s place); place = nextAt s (startOf s place) }
   unfolding read-on
   read-on-next w f =
-      let r = record-of false (widthOf s) 0 s (startOf place) f in
+      let r = record-of false (widthOf s) 0 s (startOf s place) f in
       sym (reached 3 _ (w, (λ e. omega arith, (f, tt))))

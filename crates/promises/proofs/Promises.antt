@@ -28,7 +28,7 @@ use Rattle.format.specs.Limits.{mostInput}
 use Rattle.format.specs.Bytes.{Bytes, headerLen, cubeLen, bitOf, bits, readHeader, codeOf, codes, readCube, writeCube}
 use Rattle.format.specs.Records.{nextAt, widthOf, widthFault, differenceAt, differenceFault, differenceBytes, fileBytes}
 use Rattle.format.specs.Files.{refused, whole, readFile, faultNumber, faultOffset, regionIn}
-use Rattle.format.specs.Told.{Told, silent, deciding}
+use Rattle.format.specs.Told.{Told, silent, deciding, Permitted}
 use Rattle.format.specs.Calls.{cube-meet, cube-in, first, second, neither, wider, wider-number, diff-member, region-member, region-tidy, diff-intersect, region-intersect, diff-less, region-less, diff-empty, region-empty, diff-in, ceiling-of, prefix, equal-fields, unseen, view, stay, startOf, read-on, question}
 use Rattle.format.proofs.Reached
 use Rattle.format.proofs.Coding
@@ -37,6 +37,7 @@ use Rattle.format.specs.Meaning.{Written, WrittenCube, Inside, Outside, Lent, S
 use Rattle.format.proofs.Rewriting
 use Rattle.format.proofs.Belonging
 use Rattle.format.proofs.Deciding
+use Rattle.format.proofs.Filing
 use Rattle.format.proofs.Viewing
 use Rattle.region.specs.declared.reader.Reader.{Reader}
 use Rattle.region.specs.Stepping.{answers, told, recordsBefore}
@@ -51,7 +52,7 @@ pub use Rattle.model.proofs.Bound.{pieces-at-most-ceiling}
 pub use Rattle.model.proofs.Allowed.{decided-when, undecided-when}
 pub use Rattle.model.proofs.Slips.{slips}
 pub use Rattle.format.proofs.Figures.{figures}
-use Rattle.promises.specs.Outcome.{Permitted, OneOutcome, Kept, Unwritten}
+use Rattle.promises.specs.Outcome.{OneOutcome, Kept, Unwritten}
 use Rattle.promises.proofs.Agreement
 pub use Rattle.promises.proofs.Agreement.{cube-meet-agrees, cube-in-agrees, wider-agrees, wider-number-agrees, diff-member-agrees, region-member-agrees, diff-intersect-agrees, region-intersect-agrees, diff-less-agrees, region-less-agrees, diff-empty-agrees, region-empty-agrees, diff-in-agrees, ceiling-agrees, region-tidy-agrees, prefix-agrees, equal-fields-agrees, view-agrees, view-number-agrees, read-on-agrees, first-step-agrees, begin-reading-agrees, step-on-agrees, permit-member-agrees, permit-empty-agrees}
 pub use Rattle.promises.proofs.Contracts.{cube-meet-promise, cube-in-promise, wider-promise, wider-number-promise, diff-member-promise, region-member-promise, view-promise, view-number-promise, read-on-promise, first-step-promise, diff-empty-promise, region-empty-promise, diff-in-promise, ceiling-promise, region-tidy-promise, diff-intersect-promise, region-intersect-promise, diff-less-promise, region-less-promise, prefix-promise, equal-fields-promise, permit-member-promise, permit-empty-promise, cube-meet-met, cube-in-met, wider-number-met, wider-met, diff-member-met, region-member-met, view-met, view-number-met, read-on-met, begin-reading-met, step-on-met, first-step-met, diff-empty-met, region-empty-met, diff-in-met, ceiling-met, region-tidy-met, diff-intersect-met, region-intersect-met, diff-less-met, region-less-met, prefix-met, equal-fields-met, permit-member-met, permit-empty-met}
@@ -421,22 +422,25 @@ view-nothing = Handing.view-nothing
 pub read-on-shows : (s : List ℕ) (place : ℕ) → read-on s place .answer .number ≡ 1 → Onward s place (read-on s place)
 read-on-shows = Viewing.read-on-record
 
-pub read-on-end : (s : List ℕ) (place : ℕ) → read-on s place .answer .number ≡ 2 → (widthFault s ≡ 0) × (startOf place ≡ length s)
+pub read-on-end : (s : List ℕ) (place : ℕ) → read-on s place .answer .number ≡ 2 → (widthFault s ≡ 0) × (startOf s place ≡ length s)
 read-on-end = Viewing.read-on-end
 
 pub read-on-stays : (s : List ℕ) (place : ℕ) → (read-on s place .answer .number ≡ 1 → ⊥) → read-on s place .place ≡ place
 read-on-stays = Viewing.read-on-stays
 
-pub read-on-record : (s : List ℕ) (place : ℕ) → widthFault s ≡ 0 → differenceFault false (widthOf s) 0 s (startOf place) ≡ 0
-    → read-on s place ≡ record { answer = placed (startOf place); place = nextAt s (startOf place) }
+pub read-on-first : (s : List ℕ) → widthFault s ≡ 0 → startOf s 0 ≡ 6
+read-on-first = Filing.first-six
+
+pub read-on-record : (s : List ℕ) (place : ℕ) → widthFault s ≡ 0 → differenceFault false (widthOf s) 0 s (startOf s place) ≡ 0
+    → read-on s place ≡ record { answer = placed (startOf s place); place = nextAt s (startOf s place) }
 read-on-record = Handing.read-on-next
 
-pub read-on-last : (s : List ℕ) (place : ℕ) → widthFault s ≡ 0 → startOf place ≡ length s → read-on s place ≡ stay (said 2) place
+pub read-on-last : (s : List ℕ) (place : ℕ) → widthFault s ≡ 0 → startOf s place ≡ length s → read-on s place ≡ stay (said 2) place
 read-on-last = Handing.read-on-last
 
-pub read-on-refused : (s : List ℕ) (place : ℕ) → widthFault s ≡ 0 → (startOf place ≡ length s → ⊥)
-    → (differenceFault false (widthOf s) 0 s (startOf place) ≡ 0 → ⊥)
-    → read-on s place ≡ stay (fault (differenceFault false (widthOf s) 0 s (startOf place)) 1 (startOf place)) place
+pub read-on-refused : (s : List ℕ) (place : ℕ) → widthFault s ≡ 0 → (startOf s place ≡ length s → ⊥)
+    → (differenceFault false (widthOf s) 0 s (startOf s place) ≡ 0 → ⊥)
+    → read-on s place ≡ stay (fault (differenceFault false (widthOf s) 0 s (startOf s place)) 1 (startOf s place)) place
 read-on-refused = Handing.read-on-refused
 
 pub read-on-width-refused : (s : List ℕ) (place : ℕ) → (widthFault s ≡ 0 → ⊥) → read-on s place ≡ stay (fault (widthFault s) 1 0) place

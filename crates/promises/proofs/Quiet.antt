@@ -1,6 +1,6 @@
 -- What each call leaves untouched. Assumes nothing.
 --   Mute k               == no row of the table k writes or counts anything, but for its last line
---   Ends P k             == P holds of the last line of k where every test fails
+--   LastLine P k         == P holds of the last line of k where every test fails
 --   told-by              what holds of all that writes and counts nothing, and of the last line, holds of what such a table gives
 --   cube-in-kept, .. , question-kept    every call's outcome is Kept; of a call that is lent no buffer, in no room
 --   nothing-written, untouched    where the result is a refusal, yes or undecided, no byte is told, and the buffer is as it was
@@ -20,28 +20,28 @@ use Rattle.answer.specs.declared.Answer.{Answer}
 use Rattle.format.specs.Rows.{Rows, last, row, outcome, Fails}
 use Rattle.format.specs.Records.{widthOf, differenceAt}
 use Rattle.format.specs.Files.{regionIn}
-use Rattle.format.specs.Told.{Told, over, deciding}
+use Rattle.format.specs.Told.{Told, over, deciding, Permitted}
 use Rattle.format.specs.Calls.{cube-meet, cube-in, wider-number, diff-member, region-member, region-tidy, diff-intersect, region-intersect, diff-less, region-less, diff-empty, region-empty, diff-in, ceiling-of, prefix, equal-fields, question}
 use Rattle.format.proofs.Reached.{each}
 use Rattle.format.proofs.Deciding.{empty-no, region-no, in-no}
-use Rattle.promises.specs.Outcome.{Permitted, Kept, Unwritten}
+use Rattle.promises.specs.Outcome.{Kept, Unwritten}
 
 -- a table whose rows write nothing and count nothing, but for its last line
 abbrev pub Mute : Rows Told → Type 0
 Mute (last x) = Unit {0}
 Mute (row t x k) = (length (x .bytes) ≡ 0) × (x .answer .written ≡ 0) × (x .answer .count ≡ 0) × Mute k
 
-abbrev pub Ends : (Told → Type 0) → Rows Told → Type 0
-Ends P (last x) = P x
-Ends P (row t x k) = Fails t → Ends P k
+abbrev pub LastLine : (Told → Type 0) → Rows Told → Type 0
+LastLine P (last x) = P x
+LastLine P (row t x k) = Fails t → LastLine P k
 
 module _ (P : Told → Type 0) (still : (x : Told) → length (x .bytes) ≡ 0 → x .answer .written ≡ 0 → x .answer .count ≡ 0 → P x) where
-  pub told-by : (k : Rows Told) → Mute k → Ends P k → P (outcome k)
+  pub told-by : (k : Rows Told) → Mute k → LastLine P k → P (outcome k)
   unfolding outcome
   told-by (last x) m e = e
   told-by (row t x k) m e = each P (row t x (last (outcome k))) (λ h. still x (m .0) (m .1) (m .2), λ f. told-by k (m .3) (e f))
 
-kept : (room : ℕ) (k : Rows Told) → Mute k → Ends (Kept room) k → Kept room (outcome k)
+kept : (room : ℕ) (k : Rows Told) → Mute k → LastLine (Kept room) k → Kept room (outcome k)
 kept room = told-by (Kept room) (λ x e f c. omega arith)
 
 -- the calls that do not walk
@@ -101,7 +101,7 @@ equal-fields-kept w p q n room = kept room _ (omega arith) (omega arith)
 abbrev Shows : Told → Type 0
 Shows x = ((x .answer .number ≡ 2 → ⊥) → (length (x .bytes) ≡ 0) × (x .answer .written ≡ 0)) × (10 ≤ x .answer .number → x .answer .count ≡ 0)
 
-shows : (k : Rows Told) → Mute k → Ends Shows k → Shows (outcome k)
+shows : (k : Rows Told) → Mute k → LastLine Shows k → Shows (outcome k)
 shows = told-by Shows (λ x e f c. (λ n. (e, f), λ n. c))
 
 deciding-shows : (w : ℕ) (d : Decision) → Shows (deciding w d)

@@ -2,9 +2,8 @@
 --   Promise n ps r Asked Learnt P == a contract takes anything, and what it permits has P. The prover writes each contract down as a caller has it: `Asked`
 --                               is what a caller has to show of the arguments a, and `Learnt` what it learns of them, the result x and the arguments at
 --                               exit e, in the order of the call's parameters
---   Permitted t old r new    == what the contract of a call with a buffer permits: the result r is that of t, and the buffer, old before, is now new,
---                               with the bytes of t over its front
---   OneOutcome t old         == two such outcomes have the same result, so the same number, operand, offset, count and bytes written, and the same buffer
+--   OneOutcome t old         == two outcomes that are Permitted have the same result, so the same number, operand, offset, count and bytes written, and
+--                               the same buffer
 --   OneResult a              == the same of a contract that says only that the result is a
 --   SameStretch r r′         == the references r and r′ hand back the same bytes at the same place
 --   Kept room x              == x is told by a call that was lent a buffer of that room: it writes nothing where it refuses, says yes or is undecided, and
@@ -22,15 +21,11 @@ use denote.Triple.Clauses.{AtExit}
 use borrow.Fn.Kind.{PK, RK}
 use borrow.Fn.Kinds.{In, Out, Dens, resT, endedOf}
 use Rattle.answer.specs.declared.Answer.{Answer}
-use Rattle.format.specs.Told.{Told, over}
+use Rattle.format.specs.Told.{Told, Permitted}
 
 pub record Promise (n : ℕ) (ps : List (PK n)) (r : RK n) (Asked : In n ps) (Learnt P : Out n ps r) : Type 0 where
   pub anything : (κs : Lfts n) (a : Dens κs ps) → Asked κs a
   pub permits : (κs : Lfts n) (a : Dens κs ps) (x : resT r κs .Denot) (e : AtExit (endedOf n ps r) κs) → Learnt κs a x e → P κs a x e
-
-pub record Permitted (t : Told) (old : List ℕ) (r : Answer) (new : List ℕ) : Type 0 where
-  pub answer : r ≡ t .answer
-  pub buffer : new ≡ over old (t .bytes)
 
 abbrev pub OneOutcome : Told → List ℕ → Type 0
 OneOutcome t old = (r r′ : Answer) (new new′ : List ℕ) → Permitted t old r new → Permitted t old r′ new′ → (r ≡ r′) × (new ≡ new′)

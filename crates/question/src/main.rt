@@ -1,38 +1,24 @@
 // Reads a region file on standard input and writes one line: whether no header can come through, or one that can.
 ghost use mathlib.Core.Path.{_≡_};
 ghost use lib.ListN.{length};
+ghost use Rattle.format.specs.Limits.{widestHeader};
 ghost use Rattle.format.specs.Told.{over};
 ghost use Rattle.format.specs.Calls.{question};
 use answer::Answer;
+use cube::WIDEST_HEADER;
 use libc::STDIN_FILENO;
 use libc::STDOUT_FILENO;
 
-const DIGITS: [u8; 16] = [
-    48,
-    49,
-    50,
-    51,
-    52,
-    53,
-    54,
-    55,
-    56,
-    57,
-    65,
-    66,
-    67,
-    68,
-    69,
-    70,
-];
+// "25: the program's input is above 65,536 bytes"
+const MOST_INPUT: usize = 65536;
 
 // What document 01 answers of the input: 25 where it is too long, else emptiness with the program's allowance.
 fn ask(input: &[u8], header: &mut [u8]) -> Answer
-    requires { ⌜ length (now header) ≡ 40 ⌝ }
+    requires { ⌜ length (now header) ≡ widestHeader ⌝ }
     ensures answer { λ r. ⌜ r ≡ question (now (input .entry)) .answer ⌝ }
     ensures bytes { λ _. ⌜ now (header .exit) ≡ over (now (header .entry)) (question (now (input .entry)) .bytes) ⌝ }
 {
-    if 65536 < input.len() {
+    if MOST_INPUT < input.len() {
         return Answer::said(25);
     }
     walk::region_empty(input, 1000000, header)
@@ -48,19 +34,12 @@ fn put_number(n: u64) {
     io::print_decimal(STDOUT_FILENO, n);
 }
 
-// A byte's two digits.
-fn put_byte(b: u8) {
-    put(&[DIGITS[(b / 16) as usize], DIGITS[(b % 16) as usize]]);
-}
-
-// Bytes in capital hex after a space.
+// Bytes in capital hex after a space: a header, two digits to a byte.
 fn put_hex(bytes: &[u8]) {
+    let mut digits = [0u8; 2 * WIDEST_HEADER];
+    let n = hex::write(bytes, &mut digits);
     put(b" ");
-    let mut i = 0;
-    while i < bytes.len() {
-        put_byte(bytes[i]);
-        i += 1;
-    }
+    put(&digits[0..n]);
 }
 
 // The line: a word; then the count, or for a refusal the number and the offset; for a member, the header.
@@ -88,9 +67,9 @@ fn put_line(a: Answer, header: &[u8]) {
 }
 
 fn main() {
-    let mut input = [0u8; 65537];
+    let mut input = [0u8; MOST_INPUT + 1];
     let n = io::read_full(STDIN_FILENO, &mut input);
-    let mut header = [0u8; 40];
+    let mut header = [0u8; WIDEST_HEADER];
     let answer = ask(&input[..n], &mut header);
     put_line(answer, &header);
 }

@@ -1,10 +1,11 @@
 -- The laws of records and region files.
-pub mod Tables
+pub mod Fronts
 pub mod Cubing
-pub mod Asking
-pub mod Telling
+pub mod Held
 pub mod Membership
-pub mod Viewed
+pub mod Strides
 pub mod Onward
+pub mod Viewed
 pub mod Stepping
 pub mod Reading
+pub mod Writing

@@ -1,19 +1,23 @@
--- Reading a file record by record: where the reader is, one turn, and what it gives back at a refusal and at the end. Assumes nothing.
---   Reached s h at n held    the reader is at an offset, after n accepted records, and `held` is whether what h spells is in one of them
+-- Reading a file record by record: where the reader is, one turn, and what it gives back at a refusal and at the end. What is done at each accepted
+-- record is said of the offsets passed. Assumes nothing.
+--   Reached s at n           the reader is at an offset, after n accepted records, which it passed
 --   begun                    so it is after kind 1
 --   turned                   and after a record more
 --   width-refused, record-refused, ended    what it gives back
+--   Asking s h at n held     the same where a header is asked of each record: `held` is whether what h spells is in one that was passed
+--   asking, asked-turned     so it is at the start, and after a record more
+--   asked-width, asked-refused, asked-ended    what it gives back
 use Prim.Native.Nat.{ℕ, _+_, _-_, _≤_, _<_}
 use native.Mathlib.Omega.{arith}
 use mathlib.Core.Path.{_≡_, refl, sym, ap, _∙_}
 use mathlib.Core.List.{List, [], _∷_, _++_, append-assoc, append-nil}
 use mathlib.Core.Bool.{Bool, false, _||_, or-assoc, or-false}
 use lib.ListN.{length, length-append}
-use Rattle.format.specs.Records.{nextAt, widthOf, widthFault, differenceFault}
+use Rattle.format.specs.Records.{nextAt, widthOf, firstAt, widthFault, differenceFault}
 use Rattle.format.specs.Files.{Reading, refused, whole, faultNumber, faultOffset, offsets, before, differencesFrom, readFile}
 use Rattle.format.proofs.Filing.{from-end, from-refused, from-record, read-refused, read-begun}
 use Rattle.region.specs.Asked.{inRecord, anyRecord}
-use Rattle.region.specs.Reader.{FileIs, refusal}
+use Rattle.region.specs.Reader.{FileIs, refusal, AskedIs, unasked}
 
 -- records read before the rest of a file
 abbrev pub after : List ℕ → Reading → Reading
@@ -28,63 +32,95 @@ after-one : (os : List ℕ) (at : ℕ) (r : Reading) → after os (before at r) 
 after-one os at (refused f o) = refl
 after-one os at (whole rest) = ap whole (sym (append-assoc os (at ∷ []) rest))
 
-pub record Reached (s h : List ℕ) (at n : ℕ) (held : Bool) : Type 0 where
+pub record Reached (s : List ℕ) (at n : ℕ) : Type 0 where
   pub fewer : n ≤ at
   pub passed : List ℕ
   pub counted : length passed ≡ n
   pub read : readFile s ≡ after passed (differencesFrom (length s - n) (widthOf s) s at n)
-  pub asked : held ≡ anyRecord (widthOf s) h s passed
 
-pub begun : (s h : List ℕ) → widthFault s ≡ 0 → Reached s h 6 0 false
-begun s h e =
+pub begun : (s : List ℕ) → widthFault s ≡ 0 → Reached s (firstAt s) 0
+begun s e =
     record {
       fewer = omega arith;
       passed = [];
       counted = refl;
-      read = read-begun s e ∙ after-none (differencesFrom (length s - 0) (widthOf s) s 6 0);
-      asked = refl;
+      read = read-begun s e ∙ after-none (differencesFrom (length s - 0) (widthOf s) s (firstAt s) 0);
     }
 
-any-append : (w : ℕ) (h s os : List ℕ) (at : ℕ) → anyRecord w h s (os ++ (at ∷ [])) ≡ anyRecord w h s os || inRecord w h s at
-any-append w h s [] at = or-false (inRecord w h s at)
-any-append w h s (o ∷ os) at =
-    ap (λ (b : Bool). inRecord w h s o || b) (any-append w h s os at) ∙ sym (or-assoc (inRecord w h s o) (anyRecord w h s os) (inRecord w h s at))
+-- a file's parts by its reading
+module _ (s : List ℕ) where
+  of-refused : (f at : ℕ) → readFile s ≡ refused f at → FileIs s (refusal f at (widthOf s))
+  of-refused f at q =
+      record { number = sym (ap faultNumber q); offset = sym (ap faultOffset q); width = refl; count = ap length (sym (ap offsets q)) }
 
-module _ {s h : List ℕ} {at n : ℕ} {held : Bool} (r : Reached s h at n held) where
-  pub turned : (later : Bool) → at < length s → differenceFault false (widthOf s) n s at ≡ 0 → later ≡ held || inRecord (widthOf s) h s at
-      → Reached s h (nextAt s at) (n + 1) later
-  turned later l f e =
-      let w = widthOf s in
+  of-whole : (os : List ℕ) (n : ℕ) → length os ≡ n → readFile s ≡ whole os → FileIs s (record { number = 0; offset = 0; width = widthOf s; count = n })
+  of-whole os n e q =
+      record { number = sym (ap faultNumber q); offset = sym (ap faultOffset q); width = refl; count = sym e ∙ ap length (sym (ap offsets q)) }
+
+  refused-wide : (f : ℕ) → f ≡ widthFault s → (f ≡ 0 → ⊥) → readFile s ≡ refused f 0
+  refused-wide f e z = read-refused s (λ y. z (e ∙ y)) ∙ ap (λ (g : ℕ). refused g 0) (sym e)
+
+  pub width-refused : (f : ℕ) → f ≡ widthFault s → (f ≡ 0 → ⊥) → FileIs s (refusal f 0 (widthOf s))
+  width-refused f e z = of-refused f 0 (refused-wide f e z)
+
+module _ {s : List ℕ} {at n : ℕ} (r : Reached s at n) where
+  pub turned : at < length s → differenceFault false (widthOf s) n s at ≡ 0 → Reached s (nextAt s at) (n + 1)
+  turned l f =
       record {
         fewer = omega (arith, r .fewer);
         passed = r .passed ++ (at ∷ []);
         counted = simp length-append (omega (arith, r .counted));
         read =
             r .read
-            ∙ ap (after (r .passed)) (from-record w s at n (r .fewer) l f)
-            ∙ after-one (r .passed) at (differencesFrom (length s - (n + 1)) w s (nextAt s at) (n + 1));
-        asked = e ∙ ap (λ (b : Bool). b || inRecord w h s at) (r .asked) ∙ sym (any-append w h s (r .passed) at);
+            ∙ ap (after (r .passed)) (from-record (widthOf s) s at n (r .fewer) l f)
+            ∙ after-one (r .passed) at (differencesFrom (length s - (n + 1)) (widthOf s) s (nextAt s at) (n + 1));
       }
 
-  pub record-refused : (f : ℕ) → at < length s → f ≡ differenceFault false (widthOf s) n s at → (f ≡ 0 → ⊥) → FileIs s h (refusal f at (widthOf s))
-  record-refused f l e z =
-      let q : readFile s ≡ refused f at =
-      r .read ∙ ap (after (r .passed)) (from-refused (widthOf s) s at n (r .fewer) l (λ y. z (e ∙ y))) ∙ ap (λ (g : ℕ). refused g at) (sym e) in
-      record { number = sym (ap faultNumber q); offset = sym (ap faultOffset q); width = refl; count = ap length (sym (ap offsets q)); held = rw q refl }
+  refused-here : (f : ℕ) → at < length s → f ≡ differenceFault false (widthOf s) n s at → (f ≡ 0 → ⊥) → readFile s ≡ refused f at
+  refused-here f l e z =
+      r .read ∙ ap (after (r .passed)) (from-refused (widthOf s) s at n (r .fewer) l (λ y. z (e ∙ y))) ∙ ap (λ (g : ℕ). refused g at) (sym e)
 
-  pub ended : length s ≤ at → FileIs s h (record { number = 0; offset = 0; width = widthOf s; count = n; held = held })
-  ended l =
-      let q : readFile s ≡ whole (r .passed) =
-      r .read ∙ ap (after (r .passed)) (from-end (widthOf s) s at n (length s - n) l) ∙ ap whole (append-nil (r .passed)) in
+  whole-here : length s ≤ at → readFile s ≡ whole (r .passed)
+  whole-here l = r .read ∙ ap (after (r .passed)) (from-end (widthOf s) s at n (length s - n) l) ∙ ap whole (append-nil (r .passed))
+
+  pub record-refused : (f : ℕ) → at < length s → f ≡ differenceFault false (widthOf s) n s at → (f ≡ 0 → ⊥) → FileIs s (refusal f at (widthOf s))
+  record-refused f l e z = of-refused s f at (refused-here f l e z)
+
+  pub ended : length s ≤ at → FileIs s (record { number = 0; offset = 0; width = widthOf s; count = n })
+  ended l = of-whole s (r .passed) n (r .counted) (whole-here l)
+
+-- a header is asked of each record
+pub record Asking (s h : List ℕ) (at n : ℕ) (held : Bool) : Type 0 where
+  pub reached : Reached s at n
+  pub asked : held ≡ anyRecord (widthOf s) h s (reached .passed)
+
+any-append : (w : ℕ) (h s os : List ℕ) (at : ℕ) → anyRecord w h s (os ++ (at ∷ [])) ≡ anyRecord w h s os || inRecord w h s at
+any-append w h s [] at = or-false (inRecord w h s at)
+any-append w h s (o ∷ os) at =
+    ap (λ (b : Bool). inRecord w h s o || b) (any-append w h s os at) ∙ sym (or-assoc (inRecord w h s o) (anyRecord w h s os) (inRecord w h s at))
+
+pub asking : (s h : List ℕ) → widthFault s ≡ 0 → Asking s h (firstAt s) 0 false
+unfolding begun
+asking s h e = record { reached = begun s e; asked = refl }
+
+none-asked : (s h : List ℕ) (f at : ℕ) → readFile s ≡ refused f at → AskedIs s h (unasked f at (widthOf s))
+none-asked s h f at q = record { file = of-refused s f at q; held = rw q refl }
+
+pub asked-width : (s h : List ℕ) (f : ℕ) → f ≡ widthFault s → (f ≡ 0 → ⊥) → AskedIs s h (unasked f 0 (widthOf s))
+asked-width s h f e z = none-asked s h f 0 (refused-wide s f e z)
+
+module _ {s h : List ℕ} {at n : ℕ} {held : Bool} (a : Asking s h at n held) where
+  pub asked-turned : (later : Bool) → at < length s → differenceFault false (widthOf s) n s at ≡ 0 → later ≡ held || inRecord (widthOf s) h s at
+      → Asking s h (nextAt s at) (n + 1) later
+  unfolding turned
+  asked-turned later l f e =
       record {
-        number = sym (ap faultNumber q);
-        offset = sym (ap faultOffset q);
-        width = refl;
-        count = sym (r .counted) ∙ ap length (sym (ap offsets q));
-        held = r .asked ∙ ap (anyRecord (widthOf s) h s) (sym (ap offsets q));
+        reached = turned (a .reached) l f;
+        asked = e ∙ ap (λ (b : Bool). b || inRecord (widthOf s) h s at) (a .asked) ∙ sym (any-append (widthOf s) h s (a .reached .passed) at);
       }
 
-pub width-refused : (s h : List ℕ) (f : ℕ) → f ≡ widthFault s → (f ≡ 0 → ⊥) → FileIs s h (refusal f 0 (widthOf s))
-width-refused s h f e z =
-    let q : readFile s ≡ refused f 0 = read-refused s (λ y. z (e ∙ y)) ∙ ap (λ (g : ℕ). refused g 0) (sym e) in
-    record { number = sym (ap faultNumber q); offset = sym (ap faultOffset q); width = refl; count = ap length (sym (ap offsets q)); held = rw q refl }
+  pub asked-refused : (f : ℕ) → at < length s → f ≡ differenceFault false (widthOf s) n s at → (f ≡ 0 → ⊥) → AskedIs s h (unasked f at (widthOf s))
+  asked-refused f l e z = none-asked s h f at (refused-here (a .reached) f l e z)
+
+  pub asked-ended : length s ≤ at → AskedIs s h (record { file = record { number = 0; offset = 0; width = widthOf s; count = n }; held = held })
+  asked-ended l = record { file = ended (a .reached) l; held = a .asked ∙ ap (anyRecord (widthOf s) h s) (sym (ap offsets (whole-here (a .reached) l))) }

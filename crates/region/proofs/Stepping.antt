@@ -18,15 +18,17 @@ use Rattle.answer.specs.declared.Answer.{Answer}
 use Rattle.answer.specs.Answer.{said, fault, placed}
 use Rattle.format.specs.Rows.{passes, outcome}
 use Rattle.format.specs.Limits.{mostDifferences, differenceKind}
-use Rattle.format.specs.Records.{lengthAt, kindAt, nextAt, widthOf, widthFault, differenceRows, differenceFault}
+use Rattle.format.specs.Records.{lengthAt, kindAt, nextAt, widthOf, firstAt, widthFault, differenceRows, differenceFault}
 use Rattle.format.specs.Files.{Reading, refused, whole, faultNumber, faultOffset, before, differencesFrom, readFile}
 use Rattle.format.specs.Calls.{stay, startOf, read-on}
 use Rattle.format.proofs.Reached.{reached}
 use Rattle.format.proofs.Recording.{Record, record-of}
 use Rattle.format.proofs.Filing.{from-end, from-refused, from-record, read-refused, read-begun, Listed, ended, listed, file-of}
+use Rattle.region.specs.Front.{frontAt}
 use Rattle.region.specs.Ahead.{ahead}
 use Rattle.region.specs.Stepping.{turned, answers, told, beforeAt, recordsBefore}
 use Rattle.region.specs.declared.reader.Reader.{Reader}
+use Rattle.region.proofs.Fronts.{front-own, front-next}
 use Rattle.region.proofs.Onward.{ahead-next}
 
 -- one step, by what stands where it looks
@@ -35,7 +37,7 @@ module _ (s : List ℕ) (p : ℕ) where
   unfolding read-on
   on-width z = sym (reached 0 _ z)
 
-  module _ (at : ℕ) (f : widthFault s ≡ 0) (e : startOf p ≡ at) where
+  module _ (at : ℕ) (f : widthFault s ≡ 0) (e : startOf s p ≡ at) where
     on-end : at ≡ length s → read-on s p ≡ stay (said 2) p
     unfolding read-on
     on-end l = sym (reached 1 _ (f, e ∙ l))
@@ -57,7 +59,7 @@ module _ (s : List ℕ) (p : ℕ) where
       → answers (length os + m) s q ≡ map placed os ++ l → answers (length (at ∷ os) + m) s p ≡ map placed (at ∷ os) ++ l
   one-more at q m os l e more = rw (suc-add, e) (ap (λ (x : List Answer). placed at ∷ x) more)
 
-start-next : (s : List ℕ) (at : ℕ) → startOf (nextAt s at) ≡ nextAt s at
+start-next : (s : List ℕ) (at : ℕ) → startOf s (nextAt s at) ≡ nextAt s at
 start-next s at = rw (ne-eqb (nextAt s at) 0 (omega arith))
 
 -- a record that is accepted is accepted with none before it
@@ -83,7 +85,7 @@ uncounted w n s at z =
     (ltb mostDifferences (n + 1)) _ z
 
 -- an accepted file
-listed-steps : {s : List ℕ} {at n : ℕ} {os : List ℕ} → widthFault s ≡ 0 → Listed (widthOf s) s at n os → (p : ℕ) → startOf p ≡ at → at ≤ length s
+listed-steps : {s : List ℕ} {at n : ℕ} {os : List ℕ} → widthFault s ≡ 0 → Listed (widthOf s) s at n os → (p : ℕ) → startOf s p ≡ at → at ≤ length s
     → (m : ℕ) → answers (length os + m) s p ≡ map placed os ++ replicate m (said 2)
 listed-steps {s} f (ended {at} h) p e l m = rw zero-add (stuck s p (said 2) (on-end s p at f e (omega arith)) m)
 listed-steps {s} f (listed {at} {os = os} r rest) p e l m =
@@ -134,27 +136,28 @@ record Stopped (s : List ℕ) (f at o p : ℕ) : Type 0 where
   number : differenceFault false (widthOf s) n s o ≡ f
   some : f ≡ 0 → ⊥
   place : ℕ
-  start : startOf place ≡ o
+  start : startOf s place ≡ o
   goes : Goes s at p o place
 
 module _ (s : List ℕ) (ok : widthFault s ≡ 0) where
   goes-here : (at p : ℕ) → at < length s → Goes s at p at p
   goes-here at p l m =
-      let none : beforeAt at (ahead s at) ≡ [] = rw (ahead-next s at l) (before-none at at (ahead s (nextAt s at)) (omega arith)) in
+      let none : beforeAt at (ahead s at) ≡ [] = rw (ahead-next s at l) (before-none at at (ahead s (frontAt s at .next)) (omega arith)) in
       rw (none, zero-add) refl
 
-  goes-record : (at p o q : ℕ) → startOf p ≡ at → at < length s → at < o → differenceFault false (widthOf s) 0 s at ≡ 0
+  goes-record : (at p o q : ℕ) → startOf s p ≡ at → at < length s → at < o → differenceFault false (widthOf s) 0 s at ≡ 0
       → Goes s (nextAt s at) (nextAt s at) o q → Goes s at p o q
   goes-record at p o q e l h z more m =
       let os = beforeAt o (ahead s (nextAt s at)) in
-      let first : beforeAt o (ahead s at) ≡ at ∷ os = rw (ahead-next s at l) (before-here at o (ahead s (nextAt s at)) h) in
+      let to = front-next (record-of false (widthOf s) 0 s at z) (front-own s at) in
+      let first : beforeAt o (ahead s at) ≡ at ∷ os = rw (ahead-next s at l, to) (before-here at o (ahead s (nextAt s at)) h) in
       rw first (one-more s p at (nextAt s at) m os (answers m s q) (on-record s p at ok e l z) (more m))
 
   module _ (f o : ℕ) where
     abbrev Stops-at : ℕ → ℕ → ℕ → Type 0
     Stops-at at n p = differencesFrom (length s - n) (widthOf s) s at n ≡ refused f o → Stopped s f at o p
 
-    stopped-turn : (at n p : ℕ) (a b : Bool) → leb (length s) at ≡ a → eqb (differenceFault false (widthOf s) n s at) 0 ≡ b → n ≤ at → startOf p ≡ at
+    stopped-turn : (at n p : ℕ) (a b : Bool) → leb (length s) at ≡ a → eqb (differenceFault false (widthOf s) n s at) 0 ≡ b → n ≤ at → startOf s p ≡ at
         → Stops-at (nextAt s at) (n + 1) (nextAt s at) → Stops-at at n p
     stopped-turn at n p true b x y k e later r = absurd (stops (whole []) (sym (from-end (widthOf s) s at n (length s - n) (leb-true (length s) at x)) ∙ r))
     stopped-turn at n p false true x y k e later r =
@@ -189,17 +192,17 @@ module _ (s : List ℕ) (ok : widthFault s ≡ 0) where
         } in
         subst (λ (u : ℕ). Stopped s f at u p) (ap faultOffset this) stopped
 
-    stopped-from : (t at n p : ℕ) → length s ≤ at + t → n ≤ at → startOf p ≡ at → Stops-at at n p
+    stopped-from : (t at n p : ℕ) → length s ≤ at + t → n ≤ at → startOf s p ≡ at → Stops-at at n p
     stopped-from zero at n p h k e r = absurd (stops (whole []) (sym (from-end (widthOf s) s at n (length s - n) (omega arith)) ∙ r))
     stopped-from (suc t) at n p h k e r =
         let later = stopped-from t (nextAt s at) (n + 1) (nextAt s at) (omega arith) (omega arith) (start-next s at) in
         stopped-turn at n p (leb (length s) at) (eqb (differenceFault false (widthOf s) n s at) 0) refl refl k e later r
 
-    file-stopped : readFile s ≡ refused f o → Stopped s f 6 o 0
-    file-stopped e = stopped-from (length s) 6 0 0 (omega arith) (omega arith) refl (sym (read-begun s ok) ∙ e)
+    file-stopped : readFile s ≡ refused f o → Stopped s f (firstAt s) o 0
+    file-stopped e = stopped-from (length s) (firstAt s) 0 0 (omega arith) (omega arith) refl (sym (read-begun s ok) ∙ e)
 
     -- reading on refuses the record with the same number, if it is not for the count
-    stopped-on : (st : Stopped s f 6 o 0) → (f ≡ 19 → ⊥) → read-on s (st .place) ≡ stay (fault f 1 o) (st .place)
+    stopped-on : (st : Stopped s f (firstAt s) o 0) → (f ≡ 19 → ⊥) → read-on s (st .place) ≡ stay (fault f 1 o) (st .place)
     stopped-on st z =
         let same = sym (uncounted (widthOf s) (st .n) s o (λ q. z (sym (st .number) ∙ q))) ∙ st .number in
         let step = on-refused s (st .place) o ok (st .start) (st .inside) (λ q. st .some (sym same ∙ q)) in
@@ -207,7 +210,7 @@ module _ (s : List ℕ) (ok : widthFault s ≡ 0) where
 
 -- a refused file's steps come to a place, and stay there with the refusal if it is not for the count
 abbrev Comes : List ℕ → ℕ → ℕ → Type 0
-Comes s f at = (q : ℕ) × Goes s 6 0 at q × ((f ≡ 19 → ⊥) → read-on s q ≡ stay (fault f 1 at) q)
+Comes s f at = (q : ℕ) × Goes s (firstAt s) 0 at q × ((f ≡ 19 → ⊥) → read-on s q ≡ stay (fault f 1 at) q)
 
 comes : (s : List ℕ) (f at : ℕ) (b : Bool) → eqb (widthFault s) 0 ≡ b → readFile s ≡ refused f at → Comes s f at
 comes s f at true x e =
@@ -217,7 +220,7 @@ comes s f at true x e =
 comes s f at false x e =
     let wrong = eqb-false (widthFault s) 0 x in
     let this = sym (read-refused s wrong) ∙ e in
-    let here : Comes s (widthFault s) 0 = (0, λ m. rw (nothing-before (ahead s 6), zero-add) refl, λ z. on-width s 0 wrong) in
+    let here : Comes s (widthFault s) 0 = (0, λ m. rw (nothing-before (ahead s (firstAt s)), zero-add) refl, λ z. on-width s 0 wrong) in
     subst (λ (u : ℕ). Comes s f u) (ap faultOffset this) (subst (λ (u : ℕ). Comes s u 0) (ap faultNumber this) here)
 
 module _ (s : List ℕ) {f at : ℕ} (e : readFile s ≡ refused f at) where

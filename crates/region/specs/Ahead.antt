@@ -1,7 +1,7 @@
 -- Stepping from record to record by their lengths alone.
---   nextRows s at    == where the record at an offset ends, or the end of s where the record goes beyond it
---   aheadBy t s at   == at most t of the offsets of the next line
---   ahead s at       == the offsets of the records from an offset on, as their lengths say
+--   stepsBy n next end x  == at most n of the numbers of the next line
+--   steps next end x   == the numbers from x on, each by `next` from the one before, that are below `end`
+--   ahead s at         == the offsets of the records from an offset on, as their lengths say
 --   regionAhead w s at == the region of the differences at these offsets
 -- Assumes nothing: these are definitions.
 use Prim.Native.Nat.{ℕ, zero, suc, _-_}
@@ -10,23 +10,19 @@ use mathlib.Core.Bool.{cond}
 use lib.Dec.{leb}
 use lib.ListN.{length}
 use Rattle.model.specs.Difference.{Region}
-use Rattle.format.specs.Rows.{Rows, last, row, below}
-use Rattle.format.specs.Records.{nextAt}
 use Rattle.format.specs.Files.{regionOf}
+use Rattle.region.specs.Front.{frontAt}
 
-abbrev pub nextRows : List ℕ → ℕ → Rows ℕ
-nextRows s at =
-    row (below (length s) (nextAt s at)) (length s)
-    (last (nextAt s at))
+unfoldable pub stepsBy : ℕ → (ℕ → ℕ) → ℕ → ℕ → List ℕ
+stepsBy zero next end x = []
+stepsBy (suc n) next end x = cond (leb end x) [] (x ∷ stepsBy n next end (next x))
 
--- at most t of them
-unfoldable pub aheadBy : ℕ → List ℕ → ℕ → List ℕ
-aheadBy zero s at = []
-aheadBy (suc t) s at = cond (leb (length s) at) [] (at ∷ aheadBy t s (nextAt s at))
+-- each step goes on, so there are no more steps than numbers
+abbrev pub steps : (ℕ → ℕ) → ℕ → ℕ → List ℕ
+steps next end x = stepsBy (end - x) next end x
 
--- a record is not empty, so there are no more records than bytes
 abbrev pub ahead : List ℕ → ℕ → List ℕ
-ahead s at = aheadBy (length s - at) s at
+ahead s at = steps (λ x. frontAt s x .next) (length s) at
 
 abbrev pub regionAhead : ℕ → List ℕ → ℕ → Region
 regionAhead w s at = regionOf w s (ahead s at)

@@ -1,7 +1,8 @@
 -- Whether a header is in differences of a file, by bytes: h is the header spelled as the cube that fixes each of its bits, and it is asked of each cube.
 --   cubeIn q h s a      == the first q bytes of h, as a cube, lie in the q bytes of s at an offset
 --   anyIn q h s a k     == they lie in one of the k cubes from an offset on
---   inRecord w h s at   == they lie in the base of the record at an offset and in no cut of it
+--   heldBy q h s a k    == they lie in the first cube from an offset on and in none of the k after it
+--   inRecord w h s at   == so it is of the base and the cuts of the record at an offset
 --   anyRecord w h s os  == so it is of a record at one of the offsets os
 -- Assumes nothing: these are definitions.
 use Prim.Native.Nat.{ℕ, zero, suc, _+_}
@@ -9,7 +10,7 @@ use mathlib.Core.List.{List, [], _∷_}
 use mathlib.Core.Bool.{Bool, false, not, _&&_, _||_}
 use lib.ListN.{take, drop}
 use Rattle.format.specs.Bytes.{cubeLen}
-use Rattle.format.specs.Records.{countAt}
+use Rattle.format.specs.Records.{countAt, baseAt}
 use Rattle.cube.specs.Pair.{liesIn}
 
 unfoldable pub cubeIn : ℕ → List ℕ → List ℕ → ℕ → Bool
@@ -19,8 +20,11 @@ unfoldable pub anyIn : ℕ → List ℕ → List ℕ → ℕ → ℕ → Bool
 anyIn q h s a zero = false
 anyIn q h s a (suc k) = cubeIn q h s a || anyIn q h s (a + q) k
 
-unfoldable pub inRecord : ℕ → List ℕ → List ℕ → ℕ → Bool
-inRecord w h s at = cubeIn (cubeLen w) h s (at + 5) && not (anyIn (cubeLen w) h s (at + 5 + cubeLen w) (countAt s at))
+unfoldable pub heldBy : ℕ → List ℕ → List ℕ → ℕ → ℕ → Bool
+heldBy q h s a k = cubeIn q h s a && not (anyIn q h s (a + q) k)
+
+abbrev pub inRecord : ℕ → List ℕ → List ℕ → ℕ → Bool
+inRecord w h s at = heldBy (cubeLen w) h s (baseAt s at) (countAt s at)
 
 abbrev pub anyRecord : ℕ → List ℕ → List ℕ → List ℕ → Bool
 anyRecord w h s [] = false

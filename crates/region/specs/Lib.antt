@@ -1,6 +1,7 @@
-pub mod Tests
+pub mod Front
 pub mod Ahead
 pub mod Asked
 pub mod Reader
 pub mod Viewing
 pub mod Stepping
+pub mod Writing

@@ -12,6 +12,7 @@ use mathlib.Core.Bool.{cond}
 use lib.Dec.{ltb}
 use denote.Ref.{RefT, now}
 use Rattle.answer.specs.declared.Answer.{Answer}
+use Rattle.format.specs.Records.{firstAt}
 use Rattle.format.specs.Calls.{read-on}
 use Rattle.region.specs.Ahead.{ahead}
 use Rattle.region.specs.declared.reader.Reader.{Reader}
@@ -38,4 +39,4 @@ beforeAt at [] = []
 beforeAt at (o ∷ os) = cond (ltb o at) (o ∷ beforeAt at os) []
 
 abbrev pub recordsBefore : List ℕ → ℕ → List ℕ
-recordsBefore s at = beforeAt at (ahead s 6)
+recordsBefore s at = beforeAt at (ahead s (firstAt s))

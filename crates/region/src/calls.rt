@@ -3,20 +3,22 @@ ghost use mathlib.Core.Path.{_≡_};
 ghost use Rattle.format.specs.Rows.{outcome};
 ghost use Rattle.format.specs.Told.{lentHeader, yesOr};
 ghost use Rattle.format.specs.Calls.{diff-member, region-member};
-use super::files::read_file;
+use super::asking::ask_file;
+use super::front::front_at;
+use super::lent::one_refusal;
 use super::member::in_difference;
-use super::record::difference_fault;
 use answer::Answer;
-use cube::WIDEST;
-use cube::header_fault;
+use cube::bits_refusal;
+use cube::cube_len;
 use cube::spelled;
 
 // The answer about an operand that is accepted: 11 for a header that is not well formed, else whether it is held.
 fn told(h: &[u8], w: usize, held: bool) -> Answer
     ensures { λ r. ⌜ r ≡ outcome (lentHeader w (now (h .entry)) (yesOr held)) .answer ⌝ }
 {
-    if header_fault(h, w, w) != 0 {
-        return Answer::said(11);
+    let refusal = bits_refusal(h, w, w);
+    if refusal.number != 0 {
+        return refusal;
     }
     if held {
         return Answer::said(1);
@@ -28,18 +30,12 @@ fn told(h: &[u8], w: usize, held: bool) -> Answer
 pub fn diff_member(w: usize, s: &[u8], h: &[u8]) -> Answer
     ensures { λ r. ⌜ r ≡ diff-member w (now (s .entry)) (now (h .entry)) .answer ⌝ }
 {
-    if w == 0 {
-        return Answer::said(10);
-    }
-    if WIDEST < w {
-        return Answer::said(10);
-    }
-    let fault = difference_fault(s, 0, w, 0, true);
-    if fault != 0 {
-        return Answer::fault(fault, 1, 0);
+    let refusal = one_refusal(w, s);
+    if refusal.number != 0 {
+        return refusal;
     }
     let c = spelled(h);
-    told(h, w, in_difference(s, 0, w, &c))
+    told(h, w, in_difference(s, front_at(s, 0), cube_len(w), &c))
 }
 
 // Whether the header h is in a difference of the region file. The whole file is read before the answer, and once.
@@ -47,9 +43,10 @@ pub fn region_member(s: &[u8], h: &[u8]) -> Answer
     ensures { λ r. ⌜ r ≡ region-member (now (s .entry)) (now (h .entry)) .answer ⌝ }
 {
     let c = spelled(h);
-    let f = read_file(s, &c);
-    if f.number != 0 {
-        return Answer::fault(f.number, 1, f.offset);
+    let asked = ask_file(s, &c);
+    let file = asked.file;
+    if file.number != 0 {
+        return Answer::fault(file.number, 1, file.offset);
     }
-    told(h, f.width, f.held)
+    told(h, file.width, asked.held)
 }

@@ -1,12 +1,14 @@
 // What every record starts with: its length and its kind.
-ghost use Rattle.format.specs.Rows.{Gives, last};
-ghost use Rattle.format.specs.Records.{recordRows};
-use super::bytes::kind_at;
-use super::bytes::length_at;
+ghost use mathlib.Core.Path.{_≡_};
+ghost use Rattle.format.specs.Rows.{outcome};
+ghost use Rattle.format.specs.Records.{frameRows};
+ghost use Rattle.region.specs.Front.{FrontIs};
+use super::front::Front;
 
-// What is wrong with the length or the kind of the record at an offset, which is to be of a kind: 15, 17, 16, or 0.
-pub fn frame_fault(s: &[u8], at: usize, kind: usize) -> u8
-    ensures { λ r. ⌜ Gives (recordRows kind (now (s .entry)) at (last 0)) r ⌝ }
+// What is wrong with the length or the kind of the record at an offset, which has that front and is to be of a kind: 15, 17, 16, or 0.
+pub(crate) fn frame_fault(s: &[u8], at: usize, front: Front, kind: usize) -> u8
+    requires { ⌜ FrontIs (now s) at front ⌝ }
+    ensures { λ r. ⌜ r ≡ outcome (frameRows kind (now (s .entry)) at) ⌝ }
 {
     if s.len() < 2 {
         return 15;
@@ -14,14 +16,13 @@ pub fn frame_fault(s: &[u8], at: usize, kind: usize) -> u8
     if s.len() - 2 < at {
         return 15;
     }
-    let length = length_at(s, at);
-    if s.len() - 2 - at < length {
+    if s.len() - 2 - at < front.length {
         return 15;
     }
-    if length < 2 {
+    if front.length < 2 {
         return 17;
     }
-    if kind_at(s, at) != kind {
+    if front.kind != kind {
         return 16;
     }
     0

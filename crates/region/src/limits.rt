@@ -1,10 +1,19 @@
-// The limits, the kinds of records and where the first difference of a file stands, each named once.
+// The limits and the kinds of records, each named once.
 pub const MOST_CUTS: usize = 64;
+
+// The cuts of two differences: the most that a piece of a result is given before it is tidied.
+pub const TAKEN_CUTS: usize = 2 * MOST_CUTS;
 
 pub const MOST_DIFFERENCES: usize = 256;
 
 pub const WIDTH_KIND: usize = 1;
 
+// What a kind 1 record says of its length, and how many bytes it takes.
+pub(crate) const WIDTH_LENGTH: usize = 4;
+
+pub const WIDTH_RECORD: usize = 2 + WIDTH_LENGTH;
+
 pub const DIFFERENCE_KIND: usize = 2;
 
-pub const FIRST: usize = 6;
+// The bytes of a difference's record in front of its base.
+pub(crate) const FRONT: usize = 5;

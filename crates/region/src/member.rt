@@ -3,11 +3,9 @@ ghost use mathlib.Core.Path.{_≡_};
 ghost use mathlib.Core.Bool.{_||_};
 ghost use Prim.Native.Nat.{_+_, _*_, _≤_};
 ghost use lib.ListN.{length};
-ghost use Rattle.format.specs.Bytes.{cubeLen};
-ghost use Rattle.format.specs.Records.{countAt};
-ghost use Rattle.region.specs.Asked.{cubeIn, anyIn, inRecord};
-use super::bytes::count_at;
-use cube::cube_len;
+ghost use Rattle.region.specs.Front.{Stands};
+ghost use Rattle.region.specs.Asked.{cubeIn, anyIn, heldBy};
+use super::front::Front;
 use cube::lies_in;
 
 // Whether the header is in the cube of q bytes at an offset.
@@ -35,29 +33,27 @@ fn in_any(s: &[u8], at: usize, q: usize, k: usize, h: &[u8]) -> bool
     false
 }
 
-// Whether it is in the base of the record at an offset and in no cut of it.
-pub(crate) fn in_difference(s: &[u8], at: usize, w: usize, h: &[u8]) -> bool
-    requires { ⌜ at + 5 + (countAt (now s) at + 1) * cubeLen w ≤ length (now s) ⌝ }
-    ensures { λ r. ⌜ r ≡ inRecord w (now (h .entry)) (now (s .entry)) at ⌝ }
+// Whether it is in the base of the record with that front and in no cut of it. Where fewer bytes are lent than a cube has, it is not.
+pub(crate) fn in_difference(s: &[u8], front: Front, q: usize, h: &[u8]) -> bool
+    requires { ⌜ Stands q (now s) front ⌝ }
+    ensures { λ r. ⌜ r ≡ heldBy q (now (h .entry)) (now (s .entry)) (front .base) (front .cuts) ⌝ }
 {
-    let q = cube_len(w);
     if h.len() < q {
         return false;
     }
-    let base = at + 5;
-    if in_cube(s, base, q, h) {
-        return !in_any(s, base + q, q, count_at(s, at), h);
+    if in_cube(s, front.base, q, h) {
+        return !in_any(s, front.base + q, q, front.cuts, h);
     }
     false
 }
 
 // Whether it was found before this record, or is in its difference. What was found is not looked for again.
-pub(crate) fn found(s: &[u8], at: usize, w: usize, h: &[u8], before: bool) -> bool
-    requires { ⌜ at + 5 + (countAt (now s) at + 1) * cubeLen w ≤ length (now s) ⌝ }
-    ensures { λ r. ⌜ r ≡ before || inRecord w (now (h .entry)) (now (s .entry)) at ⌝ }
+pub(crate) fn found(s: &[u8], front: Front, q: usize, h: &[u8], before: bool) -> bool
+    requires { ⌜ Stands q (now s) front ⌝ }
+    ensures { λ r. ⌜ r ≡ before || heldBy q (now (h .entry)) (now (s .entry)) (front .base) (front .cuts) ⌝ }
 {
     if before {
         return true;
     }
-    in_difference(s, at, w, h)
+    in_difference(s, front, q, h)
 }

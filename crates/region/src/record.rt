@@ -1,66 +1,51 @@
-// The reader of a kind 2 record at an offset.
+// The reader of a kind 2 record.
 ghost use mathlib.Core.Path.{_≡_};
+ghost use mathlib.Core.Bool.{true};
 ghost use Prim.Native.Nat.{_+_, _*_, _≤_, _<_};
 ghost use lib.ListN.{length};
-ghost use Rattle.format.specs.Rows.{Gives};
-ghost use Rattle.format.specs.Limits.{mostCuts};
+ghost use Rattle.format.specs.Rows.{outcome};
 ghost use Rattle.format.specs.Bytes.{cubeLen};
-ghost use Rattle.format.specs.Records.{countAt, nextAt, differenceLen, bytesAfter, cubesFault, differenceRows, differenceFault};
-ghost use Rattle.region.specs.Tests.{tests};
-use super::bytes::count_at;
-use super::bytes::length_at;
+ghost use Rattle.format.specs.Records.{cubesFault, numberRows, differenceFault};
+ghost use Rattle.region.specs.Front.{FrontIs};
+ghost use Rattle.region.specs.Reader.{ReadIs};
 use super::frame::frame_fault;
+use super::front::Front;
+use super::front::front_at;
 use super::limits::DIFFERENCE_KIND;
 use super::limits::MOST_CUTS;
 use super::limits::MOST_DIFFERENCES;
 use cube::cube_fault;
 use cube::cube_len;
 
-// The length that the record at an offset is to have by its count of cuts.
-fn claimed(s: &[u8], at: usize, w: usize) -> usize
-    requires { ⌜ (countAt (now s) at ≤ mostCuts) × (cubeLen w < 65536) ⌝ }
-    ensures { λ r. ⌜ r ≡ differenceLen (countAt (now (s .entry)) at) w ⌝ }
-{
-    3 + (count_at(s, at) + 1) * cube_len(w)
-}
-
-// How many bytes follow a record that is to be alone.
-fn bytes_after(s: &[u8], at: usize, alone: bool) -> usize
-    requires { ⌜ nextAt (now s) at ≤ length (now s) ⌝ }
-    ensures { λ r. ⌜ r ≡ bytesAfter alone (now (s .entry)) at ⌝ }
-{
-    if alone {
-        return s.len() - (at + 2 + length_at(s, at));
-    }
-    0
-}
-
 // What the numbers of the record say is wrong with it, before its cubes are looked at, or 0. No two bytes say the length of a cube above 65,535 bytes.
-fn numbers_fault(s: &[u8], at: usize, w: usize, n: usize, alone: bool) -> u8
-    ensures { λ r. ⌜ Gives (tests (differenceRows alone w n (now (s .entry)) at)) r ⌝ }
+fn numbers_fault(s: &[u8], at: usize, front: Front, w: usize, n: usize, alone: bool) -> u8
+    requires { ⌜ FrontIs (now s) at front × (front .length < 65536) ⌝ }
+    ensures { λ r. ⌜ r ≡ outcome (numberRows alone w n (now (s .entry)) at) ⌝ }
 {
-    let fault = frame_fault(s, at, DIFFERENCE_KIND);
+    let fault = frame_fault(s, at, front, DIFFERENCE_KIND);
     if fault != 0 {
         return fault;
     }
     if MOST_DIFFERENCES <= n {
         return 19;
     }
-    let length = length_at(s, at);
-    if length < 3 {
+    if front.length < 3 {
         return 17;
     }
-    if MOST_CUTS < count_at(s, at) {
+    if MOST_CUTS < front.cuts {
         return 18;
     }
-    if 65535 < cube_len(w) {
+    let q = cube_len(w);
+    if 65535 < q {
         return 17;
     }
-    if length != claimed(s, at, w) {
+    if front.length != 3 + (front.cuts + 1) * q {
         return 17;
     }
-    if bytes_after(s, at, alone) != 0 {
-        return 17;
+    if alone {
+        if front.next != s.len() {
+            return 17;
+        }
     }
     0
 }
@@ -84,13 +69,38 @@ fn cubes_fault(s: &[u8], at: usize, w: usize, k: usize) -> u8
     0
 }
 
-// What is wrong with the kind 2 record at an offset, with n differences before it: 13 to 19, or 0. `alone`: nothing may follow it.
-pub fn difference_fault(s: &[u8], at: usize, w: usize, n: usize, alone: bool) -> u8
+// What is wrong with the kind 2 record at an offset, which has that front, with n differences before it: 13 to 19, or 0. `alone`: nothing may follow it.
+fn front_fault(s: &[u8], at: usize, front: Front, w: usize, n: usize, alone: bool) -> u8
+    requires { ⌜ FrontIs (now s) at front × (front .length < 65536) ⌝ }
     ensures { λ r. ⌜ r ≡ differenceFault alone w n (now (s .entry)) at ⌝ }
 {
-    let fault = numbers_fault(s, at, w, n, alone);
+    let fault = numbers_fault(s, at, front, w, n, alone);
     if fault != 0 {
         return fault;
     }
-    cubes_fault(s, at + 5, w, count_at(s, at) + 1)
+    cubes_fault(s, front.base, w, front.cuts + 1)
+}
+
+// What is wrong with a record that is lent alone.
+pub(crate) fn alone_fault(s: &[u8], w: usize) -> u8
+    ensures { λ r. ⌜ r ≡ differenceFault true w 0 (now (s .entry)) 0 ⌝ }
+{
+    front_fault(s, 0, front_at(s, 0), w, 0, true)
+}
+
+// A record of a file that was read: what is wrong with it, or 0, and its front.
+pub(crate) struct Read {
+    pub(crate) number: u8,
+    pub(crate) front: Front,
+}
+
+// Reads the record at an offset of a file of that width, with n differences before it.
+pub(crate) fn read_record(s: &[u8], at: usize, w: usize, n: usize) -> Read
+    ensures { λ r. ⌜ ReadIs w n (now (s .entry)) at r ⌝ }
+{
+    let front = front_at(s, at);
+    Read {
+        number: front_fault(s, at, front, w, n, false),
+        front,
+    }
 }

@@ -2,9 +2,8 @@
 ghost use mathlib.Core.Path.{_≡_};
 ghost use Rattle.format.specs.Calls.{read-on, startOf};
 ghost use Rattle.region.specs.Viewing.{stepped};
-use super::limits::FIRST;
-use super::offset::next_at;
-use super::record::difference_fault;
+use super::record::read_record;
+use super::width::first_at;
 use super::width::width_fault;
 use super::width::width_of;
 use answer::Answer;
@@ -16,10 +15,10 @@ pub struct Step {
 }
 
 // Where a step looks for a record.
-fn start_of(place: usize) -> usize
-    ensures { λ r. ⌜ r ≡ startOf place ⌝ }
+fn start_of(s: &[u8], place: usize) -> usize
+    ensures { λ r. ⌜ r ≡ startOf (now (s .entry)) place ⌝ }
 {
-    if place == 0 { FIRST } else { place }
+    if place == 0 { first_at(s) } else { place }
 }
 
 // The difference at a place of a region file: 1 with its offset and the place after it; 2 at the end; or a refusal. Place 0 is the first difference.
@@ -33,22 +32,22 @@ pub fn read_on(s: &[u8], place: usize) -> Step
             place,
         };
     }
-    let at = start_of(place);
+    let at = start_of(s, place);
     if at == s.len() {
         return Step {
             answer: Answer::said(2),
             place,
         };
     }
-    let fault = difference_fault(s, at, width_of(s), 0, false);
-    if fault != 0 {
+    let read = read_record(s, at, width_of(s), 0);
+    if read.number != 0 {
         return Step {
-            answer: Answer::fault(fault, 1, at),
+            answer: Answer::fault(read.number, 1, at),
             place,
         };
     }
     Step {
         answer: Answer::placed(at),
-        place: next_at(s, at),
+        place: read.front.next,
     }
 }

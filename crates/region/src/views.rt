@@ -4,8 +4,8 @@ ghost use Prim.Native.Nat.{_+_, _≤_};
 ghost use lib.ListN.{length};
 ghost use Rattle.format.specs.Calls.{view};
 ghost use Rattle.region.specs.Viewing.{viewed, StretchIs};
-use super::bytes::count_at;
 use super::files::check_file;
+use super::front::front_at;
 use super::offset::seek;
 use answer::Answer;
 use cube::cube_len;
@@ -36,8 +36,8 @@ pub fn stretch_of(s: &[u8], d: usize, i: usize) -> Stretch
             size: 0,
         };
     }
-    let at = seek(s, d);
-    if count_at(s, at) < i {
+    let front = front_at(s, seek(s, d));
+    if front.cuts < i {
         return Stretch {
             answer: Answer::said(23),
             start: 0,
@@ -47,7 +47,7 @@ pub fn stretch_of(s: &[u8], d: usize, i: usize) -> Stretch
     let q = cube_len(f.width);
     Stretch {
         answer: Answer::said(1),
-        start: at + 5 + i * q,
+        start: front.base + i * q,
         size: q,
     }
 }

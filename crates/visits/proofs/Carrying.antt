@@ -1,7 +1,7 @@
 -- Cubes of bytes brought into words, and back. Assumes nothing.
 --   padded-inside, padded-behind, padded-long, padded-codes   the bytes of a cube with free places behind it
 --   holds-none, holds-more, holds-free   a word takes one byte more; a word behind the bytes
---   wide-holds               words that hold 80 bytes have their codes
+--   words-hold               words that hold 80 bytes have their codes
 --   unloaded, byte-out       bytes taken out of words have their codes
 --   word-more, row-more      one word, and one row, more
 use Prim.Native.Nat.{ℕ, suc, _+_, _-_, _*_, _/_, _%_, _^_, _≤_, _<_}
@@ -17,10 +17,10 @@ use lib.Pow.{pow-add, high, shr-shr}
 use Rattle.model.specs.Padding.{pad}
 use Rattle.format.specs.Bytes.{codeOf, codes}
 use Rattle.format.proofs.Coding.{length-codes, code-at, codes-free}
-use Rattle.visits.specs.Words.{placeAt, numberIn, wide, row}
-use Rattle.visits.specs.Loading.{padded, Holds, Loaded}
+use Rattle.visits.specs.Words.{placeAt, numberIn, cubeOfWords, rowCube}
+use Rattle.visits.specs.Loading.{padded, HoldsBytes, Loaded}
 use Rattle.visits.proofs.Digits.{same-or-not, below-or, same-low, threes-at}
-use Rattle.visits.proofs.Wide.{wide-ext}
+use Rattle.visits.proofs.WordCubes.{words-ext}
 use Rattle.cube.proofs.Codes.{below4, codes-append}
 use Rattle.cube.specs.Whole.{cubeOf, wholeAt}
 
@@ -52,10 +52,10 @@ all-threes d h = below4 (λ (d : ℕ). 255 / 4 ^ (3 - d) % 4 ≡ 3) refl refl re
 quarters : (d : ℕ) → d < 4 → 4 ^ (3 - d) ≡ 2 ^ (2 * (3 - d))
 quarters d h = below4 (λ (d : ℕ). 4 ^ (3 - d) ≡ 2 ^ (2 * (3 - d))) refl refl refl refl d h
 
-pub holds-none : (P : List ℕ) (b : ℕ) → Holds P 0 b 0
+pub holds-none : (P : List ℕ) (b : ℕ) → HoldsBytes P 0 b 0
 holds-none P b = (omega arith, λ k h. absurd (omega arith))
 
-pub holds-more : (P : List ℕ) (j b x y : ℕ) → y ≡ getD P (b + j) 0 → y < 256 → Holds P j b x → Holds P (j + 1) b (x * 256 + y)
+pub holds-more : (P : List ℕ) (j b x y : ℕ) → y ≡ getD P (b + j) 0 → y < 256 → HoldsBytes P j b x → HoldsBytes P (j + 1) b (x * 256 + y)
 holds-more P j b x y ey small h = (fits, digits)
   where
     fits : x * 256 + y < 2 ^ (8 * (j + 1))
@@ -76,7 +76,7 @@ holds-more P j b x y ey small h = (fits, digits)
             rw (e, q, ← ey, quarters (k % 4) (omega arith)) (same-low (x * 256 + y) y 8 2 (2 * (3 - k % 4)) (mul-add-mod-self-right x 256 y) (omega arith))
 
 -- a word behind the cube's bytes
-pub holds-free : (q : ℕ) (bs : List ℕ) (b : ℕ) → q ≤ length bs → q ≤ b → b ≤ 72 → Holds (padded q bs) 8 b 18446744073709551615
+pub holds-free : (q : ℕ) (bs : List ℕ) (b : ℕ) → q ≤ length bs → q ≤ b → b ≤ 72 → HoldsBytes (padded q bs) 8 b 18446744073709551615
 holds-free q bs b l h k = (
   omega arith,
   λ j i.
@@ -84,10 +84,10 @@ holds-free q bs b l h k = (
       rw (e, threes-at j i, padded-behind q bs (b + j / 4) l (omega arith) (omega arith)) (sym (all-threes (j % 4) (omega arith))),
 )
 
-pub wide-holds : (ws P : List ℕ) → length P ≡ 80 → ((w : ℕ) → w < 10 → Holds P 8 (8 * w) (getD ws w 0)) → wide ws ≡ codes P
+pub words-hold : (ws P : List ℕ) → length P ≡ 80 → ((w : ℕ) → w < 10 → HoldsBytes P 8 (8 * w) (getD ws w 0)) → cubeOfWords ws ≡ codes P
 unfolding numberIn
-wide-holds ws P l h =
-    wide-ext ws (codes P) (omega (arith, length-codes P))
+words-hold ws P l h =
+    words-ext ws (codes P) (omega (arith, length-codes P))
     (λ i k.
     let t = h (i / 32) (omega arith) .1 (i % 32) (omega arith) in
     let e : 62 - 2 * (i % 32) ≡ 2 * (4 * 8 - 1 - i % 32) = omega arith in
@@ -97,9 +97,10 @@ wide-holds ws P l h =
     ap codeOf n ∙ sym (code-at P i (omega arith)))
 
 -- bytes taken out of words
-pub unloaded : (ws bytes : List ℕ) → length bytes ≡ 80 → ((b : ℕ) → b < 80 → getD bytes b 0 ≡ getD ws (b / 8) 0 / 2 ^ (56 - 8 * (b % 8)) % 256) → codes bytes ≡ wide ws
+pub unloaded : (ws bytes : List ℕ) → length bytes ≡ 80 → ((b : ℕ) → b < 80 → getD bytes b 0 ≡ getD ws (b / 8) 0 / 2 ^ (56 - 8 * (b % 8)) % 256)
+    → codes bytes ≡ cubeOfWords ws
 unfolding numberIn
-unloaded ws bytes l h = sym (wide-ext ws (codes bytes) (omega (arith, length-codes bytes)) (λ i k. sym (code-at bytes i (omega arith) ∙ ap codeOf (one i k))))
+unloaded ws bytes l h = sym (words-ext ws (codes bytes) (omega (arith, length-codes bytes)) (λ i k. sym (code-at bytes i (omega arith) ∙ ap codeOf (one i k))))
   where
     one : (i : ℕ) → i < 320 → getD bytes (i / 4) 0 / 4 ^ (3 - i % 4) % 4 ≡ numberIn ws i
     one i k =
@@ -117,13 +118,14 @@ byte-out ws bytes b l h f k i =
     ⊎-elim (λ (e : k ≡ b). rw (e, getD-set-same bytes b (bitAnd x 255) 0 (omega arith)) (and-mask x 8)) (λ (e : k ≡ b → ⊥). getD-set-other bytes b k (bitAnd x 255) 0 e ∙ f k (omega arith)) (same-or-not k b)
 
 -- one word, and one row, more
-pub word-more : (P ws : List ℕ) (w x : ℕ) → w < length ws → Holds P 8 (8 * w) x → ((v : ℕ) → v < w → Holds P 8 (8 * v) (getD ws v 0)) → (v : ℕ) → v < w + 1 → Holds P 8 (8 * v) (getD (set ws w x) v 0)
+pub word-more : (P ws : List ℕ) (w x : ℕ) → w < length ws → HoldsBytes P 8 (8 * w) x → ((v : ℕ) → v < w → HoldsBytes P 8 (8 * v) (getD ws v 0)) → (v : ℕ)
+    → v < w + 1 → HoldsBytes P 8 (8 * v) (getD (set ws w x) v 0)
 word-more P ws w x l h f v i =
     ⊎-elim (λ (e : v ≡ w). rw (e, getD-set-same ws w x 0 l) h) (λ (e : v ≡ w → ⊥). rw (getD-set-other ws w v x 0 e) (f v (omega arith))) (same-or-not v w)
 
 pub row-more : (q : ℕ) (s : List ℕ) (at n : ℕ) (cuts : List (List ℕ)) (m here : ℕ) (ws : List ℕ) → m < length cuts → here ≡ at + (n - 1 - m) * q
-    → wide ws ≡ pad (320 - 4 * q) (wholeAt q s here) → Loaded q s at n cuts m → Loaded q s at n (set cuts m ws) (m + 1)
-unfolding row
+    → cubeOfWords ws ≡ pad (320 - 4 * q) (wholeAt q s here) → Loaded q s at n cuts m → Loaded q s at n (set cuts m ws) (m + 1)
+unfolding rowCube
 row-more q s at n cuts m here ws l eh e f k i =
     ⊎-elim (λ (d : k ≡ m). rw (d, getD-set-same cuts m ws [] l) (rw eh at e)) (λ (d : k ≡ m → ⊥). rw (getD-set-other cuts m k ws [] d) (f k (omega arith))) (same-or-not k m)
 

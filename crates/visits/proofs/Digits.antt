@@ -19,7 +19,7 @@ use lib.Bits.{bitAnd, bitOr, bitXor, and-shr, and-mod, or-shr, or-mod, xor-shr, 
 use Rattle.model.specs.Walk.{opens}
 use Rattle.format.specs.Bytes.{codeOf}
 use Rattle.visits.specs.Opening.{bit}
-use Rattle.visits.specs.Words.{placeAt, Openings, Gives}
+use Rattle.visits.specs.Words.{placeAt, Openings, GivenWord}
 use Rattle.visits.specs.Alive.{digit}
 
 pub same-or-not : (m n : ℕ) → (m ≡ n) ⊎ (m ≡ n → ⊥)
@@ -164,7 +164,7 @@ top-of x h l =
     rw e (record { small = omega (arith, t .1); under = t .3; over = t .2 })
 
 -- a digit 3 of base 4 made smaller
-pub given-right : (x k v : ℕ) → k < 32 → v ≤ 3 → placeAt x k ≡ 3 → Gives x k v (x - (3 - v) * 2 ^ (62 - 2 * k))
+pub given-right : (x k v : ℕ) → k < 32 → v ≤ 3 → placeAt x k ≡ 3 → GivenWord x k v (x - (3 - v) * 2 ^ (62 - 2 * k))
 given-right x k v h l e = (at, elsewhere)
   where
     s : ℕ

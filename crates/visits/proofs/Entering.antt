@@ -18,13 +18,13 @@ use Rattle.model.specs.Walk.{opens}
 use Rattle.format.specs.Bytes.{codeOf, codes}
 use Rattle.cube.specs.Whole.{cubeOf, wholeAt}
 use Rattle.visits.specs.Opening.{bit, firstOpen}
-use Rattle.visits.specs.Words.{numberIn, wide, row}
+use Rattle.visits.specs.Words.{numberIn, cubeOfWords, rowCube}
 use Rattle.visits.specs.Alive.{digit, clash, Against}
 use Rattle.visits.specs.Loading.{Entered, Met, rowOf}
 use Rattle.visits.proofs.Digits.{same-or-not, digit-below, digit-top, threes-at}
 use Rattle.visits.proofs.Carrying.{Down}
 use Rattle.visits.proofs.Meeting.{pow-double}
-use Rattle.visits.proofs.Wide.{wide-length, wide-at, before-first}
+use Rattle.visits.proofs.WordCubes.{words-length, words-at, before-first}
 
 -- a number takes a digit above all that it has
 pub record DigitMore (m x : ℕ) (b : Bool) : Type 0 where
@@ -41,10 +41,10 @@ digit-more m x false h =
     record { under = omega (arith, pow-double m); below = λ j l. rw e; top = rw (e, div-eq-of-lt h) }
 
 -- all free
-pub free-words : (j : ℕ) → j < 320 → getD (wide (replicate 10 18446744073709551615)) j none ≡ free
+pub free-words : (j : ℕ) → j < 320 → getD (cubeOfWords (replicate 10 18446744073709551615)) j none ≡ free
 unfolding numberIn
 free-words j h =
-    wide-at (replicate 10 18446744073709551615) j h
+    words-at (replicate 10 18446744073709551615) j h
     ∙ rw (getD-replicate {A = ℕ} 10 (j / 32) 18446744073709551615 0 (omega arith), threes-at (j % 32) (omega arith))
 
 -- a value against a cut's code
@@ -81,7 +81,7 @@ closed-clash v1 v1 e = absurd (true≢false e)
 closed-clash v1 free e = refl
 closed-clash free y e = refl
 
-pub fresh : (rows : List ℕ) (one : ℕ) → Entered rows (wide (replicate 10 18446744073709551615)) one rows
+pub fresh : (rows : List ℕ) (one : ℕ) → Entered rows (cubeOfWords (replicate 10 18446744073709551615)) one rows
 fresh rows one i v h k = rw (free-words i h, clash-free (codeOf (suc v))) (omega arith)
 
 module _ (rows : List ℕ) (near : Cube) (one : ℕ) (after : List ℕ) (en : Entered rows near one after) (i y : ℕ) (h : i < 320) (least : 1 ≤ y) (most : y ≤ 2) (un : getD near i none ≡ free) where
@@ -109,15 +109,16 @@ module _ (rows : List ℕ) (near : Cube) (one : ℕ) (after : List ℕ) (en : En
           ∙ en i v h w ∙ rw (un, clash-free (codeOf (suc v)), clash-same v y least most w q))
           (same-or-not v (2 - y)))
 
-pub enter-end : (rows near cut : List ℕ) (one i : ℕ) (after : List ℕ) → 320 ≤ i → i ≡ firstOpen (wide near) (wide cut)
-    → ((j : ℕ) → j < 320 → (getD (wide near) j none ≡ free) ⊎ (getD (wide near) j none ≡ getD (wide cut) j none)) → Entered rows (wide near) one after → Entered rows (wide cut) one after
+pub enter-end : (rows near cut : List ℕ) (one i : ℕ) (after : List ℕ) → 320 ≤ i → i ≡ firstOpen (cubeOfWords near) (cubeOfWords cut)
+    → ((j : ℕ) → j < 320 → (getD (cubeOfWords near) j none ≡ free) ⊎ (getD (cubeOfWords near) j none ≡ getD (cubeOfWords cut) j none))
+    → Entered rows (cubeOfWords near) one after → Entered rows (cubeOfWords cut) one after
 enter-end rows near cut one i after h f ag en j v k w =
     en j v k w
     ∙ ⊎-elim
-    (λ (e : getD (wide near) j none ≡ free).
-    let o = before-first (wide near) (wide cut) j (wide-length near ∙ sym (wide-length cut)) (omega arith) in
-    rw (e, closed-clash (codeOf (suc v)) (getD (wide cut) j none) (rw e at o)))
-    (λ (e : getD (wide near) j none ≡ getD (wide cut) j none). rw e) (ag j k)
+    (λ (e : getD (cubeOfWords near) j none ≡ free).
+    let o = before-first (cubeOfWords near) (cubeOfWords cut) j (words-length near ∙ sym (words-length cut)) (omega arith) in
+    rw (e, closed-clash (codeOf (suc v)) (getD (cubeOfWords cut) j none) (rw e at o)))
+    (λ (e : getD (cubeOfWords near) j none ≡ getD (cubeOfWords cut) j none). rw e) (ag j k)
 
 pub agree-turn : (near cut : Cube) (i : ℕ) (y : Code) (p : Cube) → i < length near → p ≡ set near i y → y ≡ getD cut i none
     → ((j : ℕ) → j < 320 → (getD near j none ≡ free) ⊎ (getD near j none ≡ getD cut j none)) → (j : ℕ) → j < 320 → (getD p j none ≡ free) ⊎ (getD p j none ≡ getD cut j none)
@@ -130,12 +131,13 @@ pub record EnteredAll (cuts : List (List ℕ)) (m : ℕ) (rows : List ℕ) : Typ
   pub small : (k : ℕ) → k < 640 → getD rows k 0 < 2 ^ m
   pub right : Against cuts m rows
 
-pub entered-more : (cuts : List (List ℕ)) (m : ℕ) (rows after : List ℕ) (one : ℕ) → one ≡ 2 ^ m → length after ≡ 640 → Entered rows (row cuts m) one after → EnteredAll cuts m rows
+pub entered-more : (cuts : List (List ℕ)) (m : ℕ) (rows after : List ℕ) (one : ℕ) → one ≡ 2 ^ m → length after ≡ 640 → Entered rows (rowCube cuts m) one after
+    → EnteredAll cuts m rows
     → EnteredAll cuts (m + 1) after
 entered-more cuts m rows after one eo l en e = record { long = l; small = small; right = right }
   where
-    more : (i v : ℕ) → i < 320 → v < 2 → DigitMore m (getD rows (2 * i + v) 0) (clash (codeOf (suc v)) (getD (row cuts m) i none))
-    more i v h k = digit-more m (getD rows (2 * i + v) 0) (clash (codeOf (suc v)) (getD (row cuts m) i none)) (e .small (2 * i + v) (omega arith))
+    more : (i v : ℕ) → i < 320 → v < 2 → DigitMore m (getD rows (2 * i + v) 0) (clash (codeOf (suc v)) (getD (rowCube cuts m) i none))
+    more i v h k = digit-more m (getD rows (2 * i + v) 0) (clash (codeOf (suc v)) (getD (rowCube cuts m) i none)) (e .small (2 * i + v) (omega arith))
 
     small : (k : ℕ) → k < 640 → getD after k 0 < 2 ^ (m + 1)
     small k h =

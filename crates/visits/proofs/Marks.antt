@@ -16,7 +16,7 @@ use Rattle.format.proofs.Coding.{length-codes}
 use Rattle.cube.proofs.Every.{below}
 use Rattle.visits.specs.Opening.{firstOpen, isFixed, bit, quads, marks, openings}
 use Rattle.visits.proofs.Openings.{first-most, first-drop}
-use Rattle.visits.proofs.Places.{codes-drop}
+use Rattle.cube.proofs.Codes.{codes-drop}
 
 pub free-right : (x : ℕ) → x < 256 → bitAnd (bitAnd x (x / 2)) 85 ≡ marks isFree x
 unfolding marks

@@ -3,6 +3,7 @@
 --   alive-child         so the digits of a child are those of the piece less those against it
 --   alive-fewer         the digits below the highest one are those of the cuts after that one
 --   alive-meets         the highest digit is that of a cut that the piece meets
+--   rows-met, rows-passed   the next cut meets the piece, or shares no header with it
 --   alive-passed        the cuts of more weight are passed over
 --   alive-none          no digit: the piece survives
 --   against-fewer       a table for n cuts is one for fewer
@@ -17,12 +18,13 @@ use lib.ListN.{getD, set}
 use lib.Pow.{pow-mono}
 use lib.Bits.{bitAnd, bitXor, xor-lt, and-le-l}
 use Rattle.model.specs.Cube.{Code, none, v0, v1, free, Cube, meetCode, coded, shares}
-use Rattle.model.specs.Walk.{piece, visit, children, inTurn, counted}
+use Rattle.model.specs.Walk.{piece, visit, children, inTurn, visited}
+use Rattle.model.proofs.Turns.{visit-none, visit-met, visit-passed}
 use Rattle.visits.specs.Opening.{bit}
-use Rattle.visits.specs.Words.{row, cutsBelow}
+use Rattle.visits.specs.Words.{rowCube, cutsBelow}
 use Rattle.visits.specs.Alive.{clash, Alive, AgainstAt, Against}
 use Rattle.visits.proofs.Digits.{below-or, digit-and, digit-xor, digit-below, digit-top}
-use Rattle.visits.proofs.Wide.{bit-zero}
+use Rattle.visits.proofs.WordCubes.{bit-zero}
 
 -- a free position takes a value
 value-meets : (v y : Code) → (v ≡ v0) ⊎ (v ≡ v1) → coded (meetCode v y) ≡ coded (meetCode free y) && not (clash v y)
@@ -72,8 +74,8 @@ alive-child cuts n p q i v x g r a b s e eq er =
       xor-lt n x (bitAnd x g) (a .0) (omega (arith, a .0, and-le-l x g)),
       λ j h.
           digit-xor j x (bitAnd x g)
-          ∙ rw (digit-and j x g, a .1 j h, b j h, child-shares p (row cuts j) i v s e)
-          (less-bits (shares p (row cuts j)) (clash v (getD (row cuts j) i none))),
+          ∙ rw (digit-and j x g, a .1 j h, b j h, child-shares p (rowCube cuts j) i v s e)
+          (less-bits (shares p (rowCube cuts j)) (clash v (getD (rowCube cuts j) i none))),
     )
 
 -- the highest digit
@@ -88,37 +90,41 @@ bit-true : (b : Bool) → bit b ≡ 1 → b ≡ true
 bit-true true e = refl
 bit-true false e = absurd (omega arith)
 
-pub alive-meets : (cuts : List (List ℕ)) (n m : ℕ) (p : Cube) (x : ℕ) → Alive cuts n p x → 2 ^ m ≤ x → x < 2 ^ suc m → m < n → shares p (row cuts m) ≡ true
+pub alive-meets : (cuts : List (List ℕ)) (n m : ℕ) (p : Cube) (x : ℕ) → Alive cuts n p x → 2 ^ m ≤ x → x < 2 ^ suc m → m < n → shares p (rowCube cuts m) ≡ true
 alive-meets cuts n m p x a o u l =
     let e : x ≡ 2 ^ m + (x - 2 ^ m) = omega arith in
-    bit-true (shares p (row cuts m)) (sym (a .1 m l) ∙ rw e (digit-top m (x - 2 ^ m) (alive-fewer cuts n m p x a o u l .0)))
+    bit-true (shares p (rowCube cuts m)) (sym (a .1 m l) ∙ rw e (digit-top m (x - 2 ^ m) (alive-fewer cuts n m p x a o u l .0)))
 
 -- the top is one of the cuts
 pub alive-top : (n m x : ℕ) → x < 2 ^ n → 2 ^ m ≤ x → m < n
 alive-top n m x h o = ⊎-elim (λ l. l) (λ (l : n ≤ m). absurd (omega (arith, pow-mono l))) (below-or m n)
 
+-- a visit with the cuts of the rows that are left
+module _ (cuts : List (List ℕ)) (n : ℕ) (p : Cube) where
+  pub rows-met : shares p (rowCube cuts n) ≡ true → visit (cutsBelow cuts (suc n)) p ≡ visited (inTurn (visit (cutsBelow cuts n)) (children p (rowCube cuts n)))
+  unfolding cutsBelow
+  rows-met = visit-met (rowCube cuts n) (cutsBelow cuts n) p
+
+  pub rows-passed : shares p (rowCube cuts n) ≡ false → visit (cutsBelow cuts (suc n)) p ≡ visit (cutsBelow cuts n) p
+  unfolding cutsBelow
+  rows-passed = visit-passed (rowCube cuts n) (cutsBelow cuts n) p
+
 -- the cuts of more weight than any digit
 pub alive-passed : (cuts : List (List ℕ)) (n m : ℕ) (p : Cube) (x : ℕ) → Alive cuts n p x → x < 2 ^ m → m ≤ n → visit (cutsBelow cuts n) p ≡ visit (cutsBelow cuts m) p
-unfolding cutsBelow visit
 alive-passed cuts zero m p x a h l = let e : m ≡ 0 = omega arith in rw e
 alive-passed cuts (suc n) m p x a h l =
     ⊎-elim
     (λ (k : m < suc n).
     let low : m ≤ n = omega arith in
     let b : x < 2 ^ n = omega (arith, pow-mono low) in
-    let z : shares p (row cuts n) ≡ false = bit-zero (shares p (row cuts n)) (sym (a .1 n (omega arith)) ∙ rw (div-eq-of-lt b)) in
-    rw z (alive-passed cuts n m p x (b, λ j d. a .1 j (omega arith)) h (omega arith)))
+    let z : shares p (rowCube cuts n) ≡ false = bit-zero (shares p (rowCube cuts n)) (sym (a .1 n (omega arith)) ∙ rw (div-eq-of-lt b)) in
+    rows-passed cuts n p z ∙ alive-passed cuts n m p x (b, λ j d. a .1 j (omega arith)) h (omega arith))
     (λ (k : suc n ≤ m). let e : m ≡ suc n = omega arith in rw e) (below-or m (suc n))
 
 -- no digit: the piece survives
 pub alive-none : (cuts : List (List ℕ)) (n : ℕ) (p : Cube) (x : ℕ) → Alive cuts n p x → x ≡ 0 → visit (cutsBelow cuts n) p ≡ record { pieces = 1; survivor = piece p }
-unfolding cutsBelow visit
-alive-none cuts n p x a e = alive-passed cuts n 0 p x a (omega arith) (omega arith)
-
--- the next cut meets the piece
-pub visit-met : (cuts : List (List ℕ)) (n : ℕ) (p : Cube) → shares p (row cuts n) ≡ true → visit (cutsBelow cuts (suc n)) p ≡ counted (inTurn (visit (cutsBelow cuts n)) (children p (row cuts n)))
-unfolding cutsBelow visit
-visit-met cuts n p e = rw e
+unfolding cutsBelow
+alive-none cuts n p x a e = alive-passed cuts n 0 p x a (omega arith) (omega arith) ∙ visit-none p
 
 pub against-fewer : (cuts : List (List ℕ)) (n m : ℕ) (rows : List ℕ) → m ≤ n → Against cuts n rows → Against cuts m rows
 against-fewer cuts n m rows l g i v h k j d = g i v h k j (omega arith)

@@ -19,17 +19,17 @@ use Rattle.model.specs.Walk.{opens, other, visit}
 use Rattle.format.specs.Bytes.{codeOf}
 use Rattle.visits.specs.Opening.{firstOpen}
 use Rattle.visits.specs.Settle.{after, settle, leftFrom}
-use Rattle.visits.specs.Words.{placeAt, numberIn, codeIn, wide, row, cutsBelow, Gives}
+use Rattle.visits.specs.Words.{placeAt, numberIn, codeIn, cubeOfWords, rowCube, cutsBelow, GivenWord}
 use Rattle.visits.specs.Alive.{Alive, Against}
-use Rattle.visits.specs.Telling.{tells, survives}
+use Rattle.visits.specs.Replies.{tells, survives}
 use Rattle.visits.specs.declared.allowance.Allowance.{Allowance}
 use Rattle.visits.specs.declared.allowance.Verdict.the-variants.{Covered, Survives, Undecided}
 use Rattle.visits.specs.declared.reply.Reply.{Reply}
 use Rattle.visits.proofs.Openings.{first-opens, first-after}
-use Rattle.visits.proofs.Wide.{wide-length, wide-at, wide-given}
+use Rattle.visits.proofs.WordCubes.{words-length, words-at, words-given}
 use Rattle.visits.proofs.Settle.{settle-on, settle-le, settle-lt}
 use Rattle.visits.proofs.Digits.{below-or}
-use Rattle.visits.proofs.Meeting.{alive-child, visit-met}
+use Rattle.visits.proofs.Meeting.{alive-child, rows-met}
 use Rattle.cube.proofs.Codes.{below4}
 
 -- the numbers of two codes of which one opens the other
@@ -58,47 +58,49 @@ value-number (suc (suc (suc y))) h k = absurd (omega arith)
 
 pub record Opened (near cut : List ℕ) (i y : ℕ) : Type 0 where
   pub place : placeAt (getD near (i / 32) 0) (i % 32) ≡ 3
-  pub unfixed : getD (wide near) i none ≡ free
+  pub unfixed : getD (cubeOfWords near) i none ≡ free
   pub least : 1 ≤ y
   pub most : y ≤ 2
-  pub fixed : codeOf y ≡ getD (wide cut) i none
+  pub fixed : codeOf y ≡ getD (cubeOfWords cut) i none
   pub turned : codeOf (3 - y) ≡ other (codeOf y)
 
-pub opened : (near cut : List ℕ) (i y : ℕ) → i ≡ firstOpen (wide near) (wide cut) → i < 320 → y ≡ numberIn cut i → Opened near cut i y
+pub opened : (near cut : List ℕ) (i y : ℕ) → i ≡ firstOpen (cubeOfWords near) (cubeOfWords cut) → i < 320 → y ≡ numberIn cut i → Opened near cut i y
 unfolding numberIn
 opened near cut i y f h e =
-    let o = first-opens (wide near) (wide cut) (wide-length near ∙ sym (wide-length cut)) (omega (arith, wide-length near)) in
-    let b : opens (codeIn near i) (codeIn cut i) ≡ true = rw (← f, wide-at near i h, wide-at cut i h) at o in
+    let o = first-opens (cubeOfWords near) (cubeOfWords cut) (words-length near ∙ sym (words-length cut)) (omega (arith, words-length near)) in
+    let b : opens (codeIn near i) (codeIn cut i) ≡ true = rw (← f, words-at near i h, words-at cut i h) at o in
     let n = opens-numbers (numberIn near i) (numberIn cut i) (mod-lt _ (lit< tt)) (mod-lt _ (lit< tt)) b in
     record {
       place = n .three;
-      unfixed = wide-at near i h ∙ ap codeOf (n .three);
+      unfixed = words-at near i h ∙ ap codeOf (n .three);
       least = omega (arith, n .least);
       most = omega (arith, n .most);
-      fixed = rw e (sym (wide-at cut i h));
+      fixed = rw e (sym (words-at cut i h));
       turned = other-number y (omega (arith, n .least)) (omega (arith, n .most));
     }
 
 -- the position takes the value v
-module _ (near : List ℕ) (i v word : ℕ) (l : length near ≡ 10) (h : i < 320) (g : Gives (getD near (i / 32) 0) (i % 32) v word) where
-  pub took-cube : wide (set near (i / 32) word) ≡ set (wide near) i (codeOf v)
-  took-cube = wide-given near i v word l h g
+module _ (near : List ℕ) (i v word : ℕ) (l : length near ≡ 10) (h : i < 320) (g : GivenWord (getD near (i / 32) 0) (i % 32) v word) where
+  pub took-cube : cubeOfWords (set near (i / 32) word) ≡ set (cubeOfWords near) i (codeOf v)
+  took-cube = words-given near i v word l h g
 
-  pub took-alive : (cuts : List (List ℕ)) (n : ℕ) (against : List ℕ) (met r : ℕ) → getD (wide near) i none ≡ free → 1 ≤ v → v ≤ 2 → Alive cuts n (wide near) met
-      → Against cuts n against → r ≡ bitXor met (bitAnd met (getD against (2 * i + (v - 1)) 0)) → Alive cuts n (wide (set near (i / 32) word)) r
+  pub took-alive : (cuts : List (List ℕ)) (n : ℕ) (against : List ℕ) (met r : ℕ) → getD (cubeOfWords near) i none ≡ free → 1 ≤ v → v ≤ 2
+      → Alive cuts n (cubeOfWords near) met
+      → Against cuts n against → r ≡ bitXor met (bitAnd met (getD against (2 * i + (v - 1)) 0)) → Alive cuts n (cubeOfWords (set near (i / 32) word)) r
   took-alive cuts n against met r o a b m t e =
       let s : suc (v - 1) ≡ v = omega arith in
-      alive-child cuts n (wide near) (wide (set near (i / 32) word)) i (codeOf v) met (getD against (2 * i + (v - 1)) 0) r m (rw s at (t i (v - 1) h (omega arith))) (value-number v a b) o took-cube e
+      alive-child cuts n (cubeOfWords near) (cubeOfWords (set near (i / 32) word)) i (codeOf v) met (getD against (2 * i + (v - 1)) 0) r m (rw s at (t i (v - 1) h (omega arith))) (value-number v a b) o took-cube e
 
-pub later-first : (near cut : List ℕ) (i : ℕ) (y : Code) (p : Cube) → i ≡ firstOpen (wide near) (wide cut) → i < 320 → y ≡ getD (wide cut) i none → p ≡ set (wide near) i y
-    → i < firstOpen p (wide cut)
+pub later-first : (near cut : List ℕ) (i : ℕ) (y : Code) (p : Cube) → i ≡ firstOpen (cubeOfWords near) (cubeOfWords cut) → i < 320
+    → y ≡ getD (cubeOfWords cut) i none → p ≡ set (cubeOfWords near) i y
+    → i < firstOpen p (cubeOfWords cut)
 later-first near cut i y p f h e c =
-    rw (c, e) (rw (← f) at (first-after (wide near) (wide cut) (wide-length near ∙ sym (wide-length cut)) (omega (arith, wide-length near))))
+    rw (c, e) (rw (← f) at (first-after (cubeOfWords near) (cubeOfWords cut) (words-length near ∙ sym (words-length cut)) (omega (arith, words-length near))))
 
-pub begun : (cuts : List (List ℕ)) (n : ℕ) (p : Cube) (a b : Allowance) → 0 < a .left → b ≡ after a 1 → shares p (row cuts n) ≡ true
-    → settle a (visit (cutsBelow cuts (suc n)) p) ≡ leftFrom (visit (cutsBelow cuts n)) (row cuts n) b p
+pub begun : (cuts : List (List ℕ)) (n : ℕ) (p : Cube) (a b : Allowance) → 0 < a .left → b ≡ after a 1 → shares p (rowCube cuts n) ≡ true
+    → settle a (visit (cutsBelow cuts (suc n)) p) ≡ leftFrom (visit (cutsBelow cuts n)) (rowCube cuts n) b p
 unfolding leftFrom
-begun cuts n p a b h e m = rw (visit-met cuts n p m, e) (settle-on a 1 _ h)
+begun cuts n p a b h e m = rw (rows-met cuts n p m, e) (settle-on a 1 _ h)
 
 pub survives-stops : (a : Allowance) (p : Cube) → settle a (survives p) .verdict ≡ Covered → ⊥
 survives-stops a p e =

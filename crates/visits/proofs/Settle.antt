@@ -2,19 +2,20 @@
 --   settle-le, settle-lt    the allowance pays every piece, or it does not
 --   settle-on               n pieces are paid for and nothing survived: the rest goes on with what is left
 --   settle-zero, settle-none   nothing is left to visit; no piece can be paid for
---   settle-covered, settle-stop   of two walks: the first is covered, and the second goes on; or the first is the answer
+--   said-on, said-stop      of two walks: the first is covered, and the second goes on; or the first is the answer
 --   settle-keeps            what is left and what is spent make the same sum
 --   decision-settle         on a fresh allowance it is the model's decision
 use Prim.Native.Nat.{ℕ, _+_, _-_, _≤_, _<_, zero-le}
 use native.Mathlib.Nat.{zero-add}
 use native.Mathlib.Omega.{arith}
-use mathlib.Core.Path.{_≡_, refl, sym, ap, _∙_}
+use mathlib.Core.Path.{_≡_, refl, sym, _∙_}
 use mathlib.Core.Bool.{Bool, true, false, cond}
 use mathlib.Core.Logic.{_⊎_, inl, inr, ⊎-elim}
 use mathlib.Core.List.{[]}
 use lib.Dec.{leb}
 use borrow.Author.Tests.{le-leb, lt-leb, leb-true, leb-false}
 use Rattle.model.specs.Walk.{Survivor, nothing, piece, Found, joined, next, decide, decided, undecided}
+use Rattle.model.proofs.Turns.{next-by}
 use Rattle.visits.specs.Settle.{Said, after, saidOf, unpaid, settle, decision}
 use Rattle.visits.specs.declared.allowance.Allowance.{Allowance}
 use Rattle.visits.specs.declared.allowance.Verdict.the-variants.{Covered, Undecided}
@@ -67,7 +68,7 @@ covered-nothing : (a : Allowance) (s : Survivor) → saidOf a s .verdict ≡ Cov
 covered-nothing a nothing e = refl
 covered-nothing a (piece p) e = let z : _≡_ {A = ℕ} 0 1 = cc in absurd (omega arith)
 
-pub settle-covered : (a : Allowance) (v u : Found) → settle a v .verdict ≡ Covered → settle a (next v u) ≡ settle (settle a v .allowance) u
+settle-covered : (a : Allowance) (v u : Found) → settle a v .verdict ≡ Covered → settle a (next v u) ≡ settle (settle a v .allowance) u
 settle-covered a v u e = ⊎-elim enough short (le-or-lt (v .pieces) (a .left))
   where
     enough : v .pieces ≤ a .left → settle a (next v u) ≡ settle (settle a v .allowance) u
@@ -81,20 +82,24 @@ settle-covered a v u e = ⊎-elim enough short (le-or-lt (v .pieces) (a .left))
         let q : Undecided ≡ Covered = rw (settle-lt a v k) at e in
         let z : _≡_ {A = ℕ} 0 1 = cc in absurd (omega arith)
 
-pub settle-stop : (a : Allowance) (v u : Found) → (settle a v .verdict ≡ Covered → ⊥) → settle a (next v u) ≡ settle a v
-settle-stop a v u e = go (v .survivor) refl
+settle-stop : (a : Allowance) (v u : Found) → (settle a v .verdict ≡ Covered → ⊥) → settle a (next v u) ≡ settle a v
+settle-stop a v u e = next-by (λ w. settle a w ≡ settle a v) v u (λ q. ⊎-elim (enough q) short (le-or-lt (v .pieces) (a .left))) (λ p q. refl)
   where
-    go : (s : Survivor) → v .survivor ≡ s → settle a (joined (v .pieces) s u) ≡ settle a v
-    go nothing q = ⊎-elim enough short (le-or-lt (v .pieces) (a .left))
-      where
-        enough : v .pieces ≤ a .left → settle a (joined (v .pieces) nothing u) ≡ settle a v
-        enough k = absurd (e (rw (settle-le a v k, q)))
+    enough : v .survivor ≡ nothing → v .pieces ≤ a .left → settle a (joined (v .pieces) nothing u) ≡ settle a v
+    enough q k = absurd (e (rw (settle-le a v k, q)))
 
-        short : a .left < v .pieces → settle a (joined (v .pieces) nothing u) ≡ settle a v
-        short k =
-            let p : a .left < v .pieces + u .pieces = omega arith in
-            rw (settle-lt a (joined (v .pieces) nothing u) p, settle-lt a v k)
-    go (piece p) q = ap (settle a) (λ i. record { pieces = v .pieces; survivor = sym q i })
+    short : a .left < v .pieces → settle a (joined (v .pieces) nothing u) ≡ settle a v
+    short k =
+        let p : a .left < v .pieces + u .pieces = omega arith in
+        rw (settle-lt a (joined (v .pieces) nothing u) p, settle-lt a v k)
+
+-- the same, where d is what is said of the first walk
+module _ (a : Allowance) (v u : Found) (d : Said) (e : d ≡ settle a v) where
+  pub said-on : d .verdict ≡ Covered → settle a (next v u) ≡ settle (d .allowance) u
+  said-on c = rw e (settle-covered a v u (rw e at c))
+
+  pub said-stop : (d .verdict ≡ Covered → ⊥) → d ≡ settle a (next v u)
+  said-stop c = e ∙ sym (settle-stop a v u (rw e at c))
 
 pub said-allowance : (a : Allowance) (s : Survivor) → saidOf a s .allowance ≡ a
 said-allowance a nothing = refl

@@ -1,7 +1,7 @@
 -- Walks that are remembered. Assumes nothing.
 --   code-or               the codes of `|`
 --   alike-below           pieces that meet the same cuts, and are alike where one of those fixes a value, are alike
---   fits-words            a piece in words fits a slot
+--   like-words            a piece in words fits a slot
 --   remembers-right       a slot that is made of a walk in which nothing survives
 --   recalls-right         a slot is used
 --   memory-set, memory-fresh   a slot is written; empty slots
@@ -26,11 +26,11 @@ use Rattle.model.proofs.Bools.{and-left, and-right}
 use Rattle.model.proofs.Alike.{walk-alike}
 use Rattle.format.specs.Bytes.{codeOf, isFree}
 use Rattle.visits.specs.Opening.{bit, isFixed}
-use Rattle.visits.specs.Words.{placeAt, numberIn, codeIn, wide, row, cutsBelow, eitherCode}
+use Rattle.visits.specs.Words.{placeAt, numberIn, codeIn, cubeOfWords, rowCube, cutsBelow, eitherCode}
 use Rattle.visits.specs.Alive.{digit, Alive}
-use Rattle.visits.specs.Memory.{Finds, Fits, Remembers, Memory, Recalls, Keeps, Lies, Common, Slot}
+use Rattle.visits.specs.Memory.{Finds, LikeSlot, Remembers, Memory, Recalls, Keeps, Lies, Common, Slot}
 use Rattle.visits.proofs.Digits.{same-or-not, below-or, or-none, xor-none, place-and, place-or, digit-below}
-use Rattle.visits.proofs.Wide.{wide-length, wide-at, row-length}
+use Rattle.visits.proofs.WordCubes.{words-length, words-at, row-length}
 use Rattle.visits.proofs.Meeting.{alive-passed, pow-double}
 use Rattle.cube.proofs.Codes.{below4, four-and}
 
@@ -90,13 +90,14 @@ module _ (cuts : List (List ℕ)) (p q : Cube) (n : ℕ → Code) (lp : length p
       open-either (getD p i none) (getD c i none) (n i) (shares-at p c i e (omega arith)) (u i k)
       ∙ rw (like i k) (sym (open-either (getD q i none) (getD c i none) (n i) (shares-at q c i f (omega arith)) (u i k))))
 
-  pub alike-below : (t : ℕ) → ((j : ℕ) → j < t → shares p (row cuts j) ≡ shares q (row cuts j))
-      → ((j : ℕ) → j < t → shares p (row cuts j) ≡ true → (i : ℕ) → i < 320 → meetCode (n i) (getD (row cuts j) i none) ≡ n i) → Alike (cutsBelow cuts t) p q
+  pub alike-below : (t : ℕ) → ((j : ℕ) → j < t → shares p (rowCube cuts j) ≡ shares q (rowCube cuts j))
+      → ((j : ℕ) → j < t → shares p (rowCube cuts j) ≡ true → (i : ℕ) → i < 320 → meetCode (n i) (getD (rowCube cuts j) i none) ≡ n i)
+      → Alike (cutsBelow cuts t) p q
   unfolding cutsBelow
   alike-below zero s u = tt
   alike-below (suc t) s u = (
     s t (omega arith),
-    λ e. opens-like (row cuts t) (row-length cuts t) e (sym (s t (omega arith)) ∙ e) (u t (omega arith) e),
+    λ e. opens-like (rowCube cuts t) (row-length cuts t) e (sym (s t (omega arith)) ∙ e) (u t (omega arith) e),
     alike-below t (λ j h. s j (omega arith)) (λ j h. u j (omega arith)),
   )
 
@@ -130,8 +131,8 @@ length-of x h =
 module _ (cuts : List (List ℕ)) (slot ws : List ℕ) (alive count m : ℕ) (small : alive < 2 ^ 64)
     (ea : getD slot 20 0 ≡ alive) (ec : getD slot 21 0 ≡ count)
     (own : (i : ℕ) → i < 320 → codeIn slot i ≡ eitherCode (codeIn ws i) (codeIn slot (320 + i)))
-    (low : (j : ℕ) → j < 64 → digit j alive ≡ 1 → (i : ℕ) → i < 320 → meetCode (codeIn slot (320 + i)) (getD (row cuts j) i none) ≡ codeIn slot (320 + i))
-    (met : Alive cuts m (wide ws) alive) (found : Finds count (visit (cutsBelow cuts m) (wide ws))) where
+    (low : (j : ℕ) → j < 64 → digit j alive ≡ 1 → (i : ℕ) → i < 320 → meetCode (codeIn slot (320 + i)) (getD (rowCube cuts j) i none) ≡ codeIn slot (320 + i))
+    (met : Alive cuts m (cubeOfWords ws) alive) (found : Finds count (visit (cutsBelow cuts m) (cubeOfWords ws))) where
   pub remembers-right : Remembers cuts slot
   unfolding Remembers
   remembers-right pos n p lp a f =
@@ -141,11 +142,11 @@ module _ (cuts : List (List ℕ)) (slot ws : List ℕ) (alive count m : ℕ) (sm
       let tn = l .1 .fewest n (b .0) in
       let tm = l .1 .fewest m (met .0) in
       let ts = l .1 .fewest 64 small in
-      let like = alike-below cuts p (wide ws) (λ i. codeIn slot (320 + i)) lp (wide-length ws) (λ i h. f i h ∙ own i h ∙ rw (wide-at ws i h)) t
-      (λ j h. bit-same (shares p (row cuts j)) (shares (wide ws) (row cuts j)) (sym (b .1 j (omega arith)) ∙ met .1 j (omega arith)))
-      (λ j h e. low j (omega arith) (b .1 j (omega arith) ∙ bit-of (shares p (row cuts j)) e)) in
+      let like = alike-below cuts p (cubeOfWords ws) (λ i. codeIn slot (320 + i)) lp (words-length ws) (λ i h. f i h ∙ own i h ∙ rw (words-at ws i h)) t
+      (λ j h. bit-same (shares p (rowCube cuts j)) (shares (cubeOfWords ws) (rowCube cuts j)) (sym (b .1 j (omega arith)) ∙ met .1 j (omega arith)))
+      (λ j h e. low j (omega arith) (b .1 j (omega arith) ∙ bit-of (shares p (rowCube cuts j)) e)) in
       rw (ec, alive-passed cuts n t p alive b (l .1 .under) tn)
-      (finds-alike (cutsBelow cuts t) p (wide ws) count like (rw (alive-passed cuts m t (wide ws) alive met (l .1 .under) tm) at found))
+      (finds-alike (cutsBelow cuts t) p (cubeOfWords ws) count like (rw (alive-passed cuts m t (cubeOfWords ws) alive met (l .1 .under) tm) at found))
 
 -- words
 second : (slot : List ℕ) (i : ℕ) → numberIn slot (320 + i) ≡ placeAt (getD slot (10 + i / 32) 0) (i % 32)
@@ -158,15 +159,15 @@ second slot i =
 either-words : (x y z k : ℕ) → bitOr x y ≡ z → eitherCode (codeOf (placeAt x k)) (codeOf (placeAt y k)) ≡ codeOf (placeAt z k)
 either-words x y z k e = rw (← e) (sym (ap codeOf (place-or k x y) ∙ code-or (placeAt x k) (placeAt y k) (mod-lt _ (lit< tt)) (mod-lt _ (lit< tt))))
 
-pub fits-words : (slot ws : List ℕ) → ((w : ℕ) → w < 10 → bitOr (getD ws w 0) (getD slot (10 + w) 0) ≡ getD slot w 0) → Fits slot (wide ws)
+pub like-words : (slot ws : List ℕ) → ((w : ℕ) → w < 10 → bitOr (getD ws w 0) (getD slot (10 + w) 0) ≡ getD slot w 0) → LikeSlot slot (cubeOfWords ws)
 unfolding numberIn
-fits-words slot ws h i l =
-    rw (wide-at ws i l, second slot i) (either-words (getD ws (i / 32) 0) (getD slot (10 + i / 32) 0) (getD slot (i / 32) 0) (i % 32) (h (i / 32) (omega arith)))
+like-words slot ws h i l =
+    rw (words-at ws i l, second slot i) (either-words (getD ws (i / 32) 0) (getD slot (10 + i / 32) 0) (getD slot (i / 32) 0) (i % 32) (h (i / 32) (omega arith)))
 
 pub recalls-right : (slots : List (List ℕ)) (ws : List ℕ) (alive e : ℕ) → e < length slots → getD (getD slots e []) 20 0 ≡ alive
     → ((w : ℕ) → w < 10 → bitOr (getD ws w 0) (getD (getD slots e []) (10 + w) 0) ≡ getD (getD slots e []) w 0) → Recalls slots ws alive (getD (getD slots e []) 21 0)
 unfolding Remembers
-recalls-right slots ws alive e h ea f pos cuts mem n a = mem e h pos n (wide ws) (wide-length ws) (rw ea a) (fits-words (getD slots e []) ws f)
+recalls-right slots ws alive e h ea f pos cuts mem n a = mem e h pos n (cubeOfWords ws) (words-length ws) (rw ea a) (like-words (getD slots e []) ws f)
 
 -- slots
 pub memory-set : (cuts slots : List (List ℕ)) (e : ℕ) (slot : List ℕ) → Memory cuts slots → Remembers cuts slot → Memory cuts (set slots e slot)
@@ -285,20 +286,21 @@ module _ (m m′ b : List ℕ) (e : (w : ℕ) → w < 10 → getD m′ w 0 ≡ b
   lies-more : (c : Cube) → Lies m c → Lies m′ c
   lies-more c l i h = rw (met-code i h) (meet-swap (codeIn m i) (codeIn b i) (getD c i none) ∙ rw (l i h))
 
-  lies-in : Lies m′ (wide b)
-  lies-in i h = rw (met-code i h, wide-at b i h) (within-again (codeIn m i) (codeIn b i))
+  lies-in : Lies m′ (cubeOfWords b)
+  lies-in i h = rw (met-code i h, words-at b i h) (within-again (codeIn m i) (codeIn b i))
 
 pub common-turn : (cuts : List (List ℕ)) (alive x y t : ℕ) (m m′ : List ℕ) → x < 2 ^ suc t → 2 ^ t ≤ x → y ≡ x - 2 ^ t
     → ((w : ℕ) → w < 10 → getD m′ w 0 ≡ bitAnd (getD m w 0) (getD (getD cuts t []) w 0))
-    → ((j : ℕ) → j < 64 → digit j alive ≡ 1 → (digit j x ≡ 1) ⊎ Lies m (row cuts j)) → (j : ℕ) → j < 64 → digit j alive ≡ 1 → (digit j y ≡ 1) ⊎ Lies m′ (row cuts j)
-unfolding row
+    → ((j : ℕ) → j < 64 → digit j alive ≡ 1 → (digit j x ≡ 1) ⊎ Lies m (rowCube cuts j)) → (j : ℕ) → j < 64 → digit j alive ≡ 1
+    → (digit j y ≡ 1) ⊎ Lies m′ (rowCube cuts j)
+unfolding rowCube
 common-turn cuts alive x y t m m′ u o ey e f j h d =
-    ⊎-elim (λ (k : digit j x ≡ 1). still k) (λ l. inr (lies-more m m′ (getD cuts t []) e (row cuts j) l)) (f j h d)
+    ⊎-elim (λ (k : digit j x ≡ 1). still k) (λ l. inr (lies-more m m′ (getD cuts t []) e (rowCube cuts j) l)) (f j h d)
   where
-    here : digit j x ≡ 1 → j ≡ t → (digit j y ≡ 1) ⊎ Lies m′ (row cuts j)
+    here : digit j x ≡ 1 → j ≡ t → (digit j y ≡ 1) ⊎ Lies m′ (rowCube cuts j)
     here k q = inr (rw q (lies-in m m′ (getD cuts t []) e))
 
-    still : digit j x ≡ 1 → (digit j y ≡ 1) ⊎ Lies m′ (row cuts j)
+    still : digit j x ≡ 1 → (digit j y ≡ 1) ⊎ Lies m′ (rowCube cuts j)
     still k =
         ⊎-elim (here k)
         (λ (q : j ≡ t → ⊥).
@@ -307,7 +309,8 @@ common-turn cuts alive x y t m m′ u o ey e f j h d =
         (below-or j t))
         (same-or-not j t)
 
-pub common-end : (cuts : List (List ℕ)) (alive x : ℕ) (m : List ℕ) → x ≡ 0 → ((j : ℕ) → j < 64 → digit j alive ≡ 1 → (digit j x ≡ 1) ⊎ Lies m (row cuts j)) → Common cuts alive m
+pub common-end : (cuts : List (List ℕ)) (alive x : ℕ) (m : List ℕ) → x ≡ 0 → ((j : ℕ) → j < 64 → digit j alive ≡ 1 → (digit j x ≡ 1) ⊎ Lies m (rowCube cuts j))
+    → Common cuts alive m
 common-end cuts alive x m z f j h d =
     ⊎-elim (λ (k : digit j x ≡ 1). absurd (omega (arith, (rw (z, div-eq-of-lt (pow-pos j)) at k)))) (λ l. l) (f j h d)
 

@@ -1,6 +1,7 @@
 -- One turn of a visit's loop, on bytes: the position i is the first that the cut opens, and n the number of the cut's code there. Assumes nothing.
 --   front-length, front-cube   the first q bytes of a piece, as they are lent
 --   cube-length, cut-length    a cube of q bytes has 4 * q positions
+--   piece-given                a piece with the code v at a position, whatever part of it is looked at
 --   Opens, opens-at            i is a position of the piece and of the cut, free in the one and n in the other; where the piece takes that value,
 --                              the next position that opens is a later one
 use Prim.Native.Nat.{ℕ, zero, suc, _+_, _-_, _*_, _/_, _≤_, _<_}
@@ -9,15 +10,17 @@ use native.Mathlib.Omega.{arith}
 use mathlib.Core.Path.{_≡_, refl, sym, ap, _∙_}
 use mathlib.Core.Bool.{true}
 use mathlib.Core.List.{List}
-use lib.ListN.{length, getD, take, drop, length-drop}
-use lib.Seq.{length-take-le, getD-take, getD-drop}
+use lib.ListN.{length, getD, take, drop, set, length-drop}
+use lib.Seq.{length-take-le, take-set-lt, getD-take, getD-drop}
 use Rattle.model.specs.Cube.{Code, none, v0, v1, free}
 use Rattle.model.specs.Walk.{opens, other}
 use Rattle.format.specs.Bytes.{codeOf, codes}
 use Rattle.format.proofs.Coding.{length-codes, code-at}
 use Rattle.cube.specs.Whole.{cubeOf, wholeAt}
 use Rattle.cube.proofs.Member.{codes-take}
-use Rattle.visits.specs.Cuts.{codeAt, Given}
+use Rattle.cube.specs.Code.{codeAt}
+use Rattle.cube.proofs.Coded.{code-small}
+use Rattle.visits.specs.Cuts.{Given}
 use Rattle.visits.specs.Opening.{firstOpen}
 use Rattle.visits.proofs.Openings.{first-opens, first-after}
 
@@ -44,21 +47,11 @@ cut-code q s at i h k =
     let m : i / 4 < q = omega arith in
     code-at (take q (drop at s)) i (omega arith) ∙ rw (getD-take q (drop at s) (i / 4) 0 m, getD-drop)
 
-code-small : (s : List ℕ) (at i : ℕ) → codeAt s at i ≤ 3
-unfolding codeAt
-code-small s at i = omega arith
-
-cube-code : (q : ℕ) (bs : List ℕ) (i : ℕ) → i < 4 * q → getD (cubeOf q bs) i none ≡ getD (codes bs) i none
+pub piece-given : (bs new : List ℕ) (i v : ℕ) → length new ≡ 80 → codes new ≡ set (codes bs) i (codeOf v) → Given bs i v new
 unfolding cubeOf
-cube-code q bs i h = rw codes-take (getD-take (4 * q) (codes bs) i none h)
+piece-given bs new i v l e = record { long = l; cube = λ q h. rw (codes-take q new, codes-take q bs, e) (take-set-lt (4 * q) (codes bs) i (codeOf v) h) }
 
 -- what a position that opens tells
-opens-free : (x y : Code) → opens x y ≡ true → x ≡ free
-opens-free none y e = cc
-opens-free v0 y e = cc
-opens-free v1 y e = cc
-opens-free free y e = refl
-
 opens-other : (x : Code) (n : ℕ) → opens x (codeOf n) ≡ true → codeOf (3 - n) ≡ other (codeOf n)
 opens-other none n e = cc
 opens-other v0 n e = cc
@@ -74,7 +67,6 @@ pub record Opens (q cut i n : ℕ) (s near : List ℕ) : Type 0 where
   pub small : n ≤ 3
   pub code : codeOf n ≡ getD (wholeAt q s cut) i none
   pub other : (m : ℕ) → m ≡ 3 - n → codeOf m ≡ other (codeOf n)
-  pub free : getD (codes near) i none ≡ free
   pub later : (r : List ℕ) → Given near i n r → i < firstOpen (cubeOf q r) (wholeAt q s cut)
 
 pub opens-at : (q cut i n : ℕ) (s near : List ℕ) → q ≤ 80 → length near ≡ 80 → cut + q ≤ length s → i < 4 * q
@@ -83,10 +75,9 @@ opens-at q cut i n s near short long there inside first read =
     record {
       even = even;
       inside = within;
-      small = rw read (code-small s cut i);
+      small = omega (arith, code-small s cut i);
       code = code;
       other = λ m e. rw e (opens-other (getD (cubeOf q near) i none) n opening);
-      free = sym (cube-code q near i inside) ∙ opens-free (getD (cubeOf q near) i none) (codeOf n) opening;
       later = later;
     }
   where

@@ -1,7 +1,7 @@
 -- What a visit does, in plain terms: how it begins, and one turn of its loop over the positions that the cut opens. Assumes nothing.
 use Prim.Native.Nat.{ℕ, suc, _+_, _≤_, _<_}
 use native.Mathlib.Omega.{arith}
-use mathlib.Core.Path.{_≡_, refl, ap, _∙_}
+use mathlib.Core.Path.{_≡_, refl, sym, ap, _∙_}
 use mathlib.Core.List.{List, [], _∷_}
 use mathlib.Core.Logic.{⊎-elim}
 use types.Run.{OneOf}
@@ -17,9 +17,9 @@ use Rattle.visits.specs.declared.allowance.Allowance.{Allowance}
 use Rattle.visits.specs.declared.allowance.Verdict.{Verdict}
 use Rattle.visits.specs.declared.allowance.Verdict.the-variants.{Covered, Survives, Undecided}
 use Rattle.visits.proofs.allowance.Verdict.{the-type}
-use Rattle.visits.proofs.Cuts.{visit-meet, visit-none}
+use Rattle.visits.proofs.Cuts.{cuts-met, cuts-none}
 use Rattle.visits.proofs.Openings.{children-first, children-none}
-use Rattle.visits.proofs.Settle.{settle-le, settle-on, settle-zero, settle-covered, settle-stop}
+use Rattle.visits.proofs.Settle.{settle-le, settle-on, settle-zero, said-on, said-stop}
 
 -- a visit is paid for, and the cuts that share no header are passed over
 module _ (q : ℕ) (s : List ℕ) (p : Cube) (at n to m : ℕ) (a b : Allowance) (pays : 0 < a .left) (paid : b ≡ after a 1) (k : Skipped q s p at n to m) where
@@ -28,12 +28,12 @@ module _ (q : ℕ) (s : List ℕ) (p : Cube) (at n to m : ℕ) (a b : Allowance)
 
   -- no cut is left
   pub begin-survives : m ≡ 0 → record { allowance = b; verdict = Survives; piece = p } ≡ settle a (visit (wholesAt q s at n) p)
-  begin-survives z = rw (k .same, visit-none q s p to m z, settle-le a (record { pieces = 1; survivor = piece p }) pays, paid)
+  begin-survives z = rw (k .same, cuts-none q s p to m z, settle-le a (record { pieces = 1; survivor = piece p }) pays, paid)
 
   -- a cut is left, and meets the piece
   pub begin-split : (f : ℕ) → m ≡ suc f → settle a (visit (wholesAt q s at n) p) ≡ leftFrom (visit (wholesAt q s (to + q) f)) (wholeAt q s to) b p
   unfolding leftFrom
-  begin-split f e = rw (k .same, visit-meet q s p to m f e (k .meeting (omega arith)), paid) (settle-on a 1 _ pays)
+  begin-split f e = rw (k .same, cuts-met q s p to m f e (k .meeting (omega arith)), paid) (settle-on a 1 _ pays)
 
 module _ (f : Cube → Found) (cut near : Cube) (have : Allowance) (l : length near ≡ length cut) where
   -- no position opens
@@ -51,11 +51,11 @@ module _ (f : Cube → Found) (cut near : Cube) (have : Allowance) (l : length n
     -- the child is covered: the piece that agrees there goes on with what it left
     pub turn-covered : v .verdict ≡ Covered → leftFrom f cut have near ≡ leftFrom f cut (v .allowance) (set near i y)
     unfolding leftFrom
-    turn-covered q = opened ∙ rw r (settle-covered have (f child) _ (rw r at q))
+    turn-covered q = opened ∙ said-on have (f child) _ v r q
 
     -- it is not: that is the answer
     pub turn-stop : (v .verdict ≡ Covered → ⊥) → leftFrom f cut have near ≡ v
-    turn-stop q = opened ∙ rw r (settle-stop have (f child) _ (rw r at q))
+    turn-stop q = opened ∙ sym (said-stop have (f child) _ v r q)
 
 -- what a `match` on the verdict tells
 pub is-covered : (k : Verdict) → OneOf (0 ∷ []) (tagOf the-type k) → k ≡ Covered

@@ -20,11 +20,12 @@ use Rattle.model.specs.Padding.{pad, padSurvivor, padFound}
 use Rattle.model.proofs.Padding.{Lengths, shares-pad, visit-pad}
 use Rattle.cube.specs.Whole.{cubeOf, wholeAt, wholesAt}
 use Rattle.cube.proofs.Member.{codes-take}
-use Rattle.visits.specs.Settle.{Said, kept, view, after, saidOf, settle}
-use Rattle.visits.specs.Words.{wide, row, cutsBelow}
-use Rattle.visits.specs.Alive.{Alive}
+use Rattle.visits.specs.Settle.{Said, kept, says, after, saidOf, settle}
+use Rattle.visits.specs.Words.{cubeOfWords, rowCube, cutsBelow}
+use Rattle.visits.specs.Alive.{Alive, First}
 use Rattle.visits.specs.Loading.{rowOf, Loaded, Met}
-use Rattle.visits.specs.Telling.{tells, First, Told, Resumed}
+use Rattle.visits.specs.Replies.{tells, InBytes}
+use Rattle.visits.specs.Walked.{Resumed}
 use Rattle.visits.specs.declared.allowance.Allowance.{Allowance}
 use Rattle.visits.specs.declared.allowance.Outcome.{Outcome}
 use Rattle.visits.specs.declared.allowance.Verdict.{Verdict}
@@ -34,10 +35,7 @@ use Rattle.visits.proofs.allowance.Verdict.{the-type}
 use Rattle.visits.proofs.Settle.{settle-le, settle-lt, said-allowance}
 use Rattle.visits.proofs.Step.{cut-length}
 use Rattle.visits.proofs.Digits.{below-or}
-
-unmet : (cuts : List (List ℕ)) (n : ℕ) (P : Cube) → shares P (row cuts n) ≡ false → visit (cutsBelow cuts (suc n)) P ≡ visit (cutsBelow cuts n) P
-unfolding cutsBelow visit
-unmet cuts n P e = rw e
+use Rattle.visits.proofs.Meeting.{rows-passed}
 
 from-lengths : (q : ℕ) (s : List ℕ) (at n : ℕ) → at + n * q ≤ length s → Lengths (4 * q) (wholesAt q s at n)
 unfolding wholesAt
@@ -78,14 +76,14 @@ module _ (q : ℕ) (s : List ℕ) (at left : ℕ) (cuts : List (List ℕ)) (l : 
         let c : (left - j) * q ≤ left * q = mul-le-mul-right q (omega arith) in
         cut-length q s (at + (left - 1 - j) * q) (omega arith)
 
-    row-shares : (j : ℕ) → j < left → shares P (row cuts j) ≡ shares p (rowOf q s at left j)
+    row-shares : (j : ℕ) → j < left → shares P (rowCube cuts j) ≡ shares p (rowOf q s at left j)
     row-shares j h = rw (eP, l j h) (shares-pad (320 - 4 * q) p (rowOf q s at left j) (lp ∙ sym (row-length j h)))
 
     pub loaded-alive : (n : ℕ) (x : ℕ) → n ≤ left → Met q s (at + (left - n) * q) n p n x → Alive cuts n P x
     loaded-alive n x h m = (m .0, λ j k. let e = last-row n j h k in m .1 j k ∙ rw (e, row-shares j (omega arith)))
 
     -- the cut before the last 64, where there is one
-    pub first-met : (n : ℕ) (b : Bool) → n ≡ min left 64 → left ≤ 65 → First left (shares p (wholeAt q s at)) b → b ≡ true → shares P (row cuts n) ≡ true
+    pub first-met : (n : ℕ) (b : Bool) → n ≡ min left 64 → left ≤ 65 → First left (shares p (wholeAt q s at)) b → b ≡ true → shares P (rowCube cuts n) ≡ true
     first-met n b en h f e =
         ⊎-elim (λ (k : left < 65). absurd (true≢false (sym e ∙ f .0 k)))
         (λ (k : 65 ≤ left).
@@ -110,7 +108,7 @@ module _ (q : ℕ) (s : List ℕ) (at left : ℕ) (cuts : List (List ℕ)) (l : 
 
             go : (g : Bool) → b ≡ g → visit (cutsBelow cuts (cond g (suc n) n)) P ≡ visit (cutsBelow cuts (suc n)) P
             go true w = refl
-            go false w = sym (unmet cuts n P (row-shares n (omega arith) ∙ rw (z, y) (sym (f .1 k) ∙ w)))
+            go false w = sym (rows-passed cuts n P (row-shares n (omega arith) ∙ rw (z, y) (sym (f .1 k) ∙ w)))
 
     pub whole : padFound (320 - 4 * q) (visit (wholesAt q s at left) p) ≡ visit (cutsBelow cuts left) P
     whole =
@@ -155,15 +153,15 @@ trim-settle w u a v h = ⊎-elim short enough (below-or (a .left) (v .pieces))
     short : a .left < v .pieces → trim w (settle a (padFound u v)) ≡ settle a v
     short k = rw (settle-lt a (padFound u v) k, settle-lt a v k, take-nil w)
 
-pub told-view : (q u : ℕ) (a : Allowance) (v : Found) (r : Reply) (o : Outcome) → ((p : Cube) → v .survivor ≡ piece p → length p ≡ 4 * q)
-    → tells r ≡ settle a (padFound u v) → Told r o → view q o ≡ settle a v
+pub in-bytes-says : (q u : ℕ) (a : Allowance) (v : Found) (r : Reply) (o : Outcome) → ((p : Cube) → v .survivor ≡ piece p → length p ≡ 4 * q)
+    → tells r ≡ settle a (padFound u v) → InBytes r o → says q o ≡ settle a v
 unfolding cubeOf
-told-view q u a v r o h e t =
-    rw (t .allowance, t .verdict, codes-take q (o .piece), t .piece, kept-take (r .verdict) (4 * q) (wide (r .piece)))
+in-bytes-says q u a v r o h e t =
+    rw (t .allowance, t .verdict, codes-take q (o .piece), t .piece, kept-take (r .verdict) (4 * q) (cubeOfWords (r .piece)))
     (ap (trim (4 * q)) e ∙ trim-settle (4 * q) u a v h)
 
 -- a smaller allowance
-module _ (q : ℕ) (a b : Allowance) (v : Found) (r : Outcome) (less : b .left ≤ a .left) (same : b .spent ≡ a .spent) (e : view q r ≡ settle b v) (n : r .verdict ≡ Undecided → ⊥) where
+module _ (q : ℕ) (a b : Allowance) (v : Found) (r : Outcome) (less : b .left ≤ a .left) (same : b .spent ≡ a .spent) (e : says q r ≡ settle b v) (n : r .verdict ≡ Undecided → ⊥) where
   paid : v .pieces ≤ b .left
   paid =
       ⊎-elim (λ (k : b .left < v .pieces). absurd (n (ap (λ (x : Said). x .verdict) (e ∙ settle-lt b v k)))) (λ k. k) (below-or (b .left) (v .pieces))
@@ -176,8 +174,8 @@ module _ (q : ℕ) (a b : Allowance) (v : Found) (r : Outcome) (less : b .left �
   pub resumed-fits : (a .spent ≤ r .allowance .spent) × (r .allowance .spent - a .spent ≤ a .left)
   resumed-fits = (omega (arith, spent-is), omega (arith, spent-is, paid))
 
-  pub resumed-view : (o : Outcome) → Resumed a r o → view q o ≡ settle a v
-  resumed-view o t =
+  pub resumed-says : (o : Outcome) → Resumed a r o → says q o ≡ settle a v
+  resumed-says o t =
       let p : v .pieces ≤ a .left = omega (arith, paid) in
       let l : o .allowance .left ≡ a .left - v .pieces = omega (arith, t .left, spent-is) in
       let s : o .allowance .spent ≡ a .spent + v .pieces = omega (arith, t .spent, spent-is) in

@@ -1,20 +1,16 @@
 -- Cubes as the walk has them: whole bytes, so that an unused place is one more free position, which changes nothing.
---   codeAt s at i      == the code at position i of the cube that stands in s at an offset, as a number
 --   Given p i v r      == the 80 bytes r are the piece p with the code v at position i
 --   Skipped            == from (at, n) a visit of p may pass to (to, m): each cut on the way shares no header with p
 -- Assumes nothing: these are definitions.
-use Prim.Native.Nat.{ℕ, _+_, _-_, _*_, _/_, _%_, _^_, _≤_, _<_}
+use Prim.Native.Nat.{ℕ, _+_, _*_, _≤_, _<_}
 use mathlib.Core.Path.{_≡_}
 use mathlib.Core.List.{List}
 use mathlib.Core.Bool.{true}
-use lib.ListN.{length, getD, set}
+use lib.ListN.{length, set}
 use Rattle.model.specs.Cube.{Cube, shares}
 use Rattle.model.specs.Walk.{visit}
 use Rattle.format.specs.Bytes.{codeOf}
 use Rattle.cube.specs.Whole.{cubeOf, wholeAt, wholesAt}
-
-unfoldable pub codeAt : List ℕ → ℕ → ℕ → ℕ
-codeAt s at i = getD s (at + i / 4) 0 / 4 ^ (3 - i % 4) % 4
 
 pub record Given (p : List ℕ) (i v : ℕ) (r : List ℕ) : Type 0 where
   pub long : length r ≡ 80

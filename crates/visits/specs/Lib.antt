@@ -4,6 +4,6 @@ pub mod Settle
 pub mod Words
 pub mod Alive
 pub mod Memory
-pub mod Telling
+pub mod Replies
 pub mod Loading
 pub mod Walked

@@ -2,7 +2,7 @@
 --   after a n          == the allowance a, when n pieces are paid for
 --   Said               == what an outcome says
 --   kept v p           == the piece p where the verdict v is that it survives, else none
---   view q r           == what the outcome r says of pieces of q bytes: its piece counts only where one survives
+--   says q r           == what the outcome r says of pieces of q bytes: its piece counts only where one survives
 --   saidOf a s         == what is said of a walk that came to s and left the allowance a
 --   unpaid a           == what is said where the allowance a does not pay
 --   settle a v         == paying the pieces of the walk v out of the allowance a
@@ -36,8 +36,8 @@ kept Covered p = []
 kept Survives p = p
 kept Undecided p = []
 
-abbrev pub view : ℕ → Outcome → Said
-view q r = record { allowance = r .allowance; verdict = r .verdict; piece = kept (r .verdict) (cubeOf q (r .piece)) }
+abbrev pub says : ℕ → Outcome → Said
+says q r = record { allowance = r .allowance; verdict = r .verdict; piece = kept (r .verdict) (cubeOf q (r .piece)) }
 
 abbrev pub saidOf : Allowance → Survivor → Said
 saidOf a nothing = record { allowance = a; verdict = Covered; piece = [] }

@@ -3,11 +3,11 @@
 --   numberIn ws i      == the number of the code at position i of the words ws
 --   codeIn ws i        == that code
 --   tabled n f i       == the n codes f i, f (i + 1), ..
---   wide ws            == the cube in ten words
---   row cuts j         == the cube in row j of a table of words
+--   cubeOfWords ws     == the cube in ten words
+--   rowCube cuts j     == the cube in row j of a table of words
 --   cutsBelow cuts n   == the cubes of the rows n - 1, .., 1, 0: the n cuts that are left, the next one first
 --   Openings x y t     == the word t has the digit 1 of base 4 at each place where the cut's word y opens the piece's word x, else 0
---   Gives x k v r      == the word r is the word x with the code v at place k
+--   GivenWord x k v r  == the word r is the word x with the code v at place k
 --   eitherCode x y     == what the code x or the code y admits
 -- Assumes nothing: these are definitions.
 use Prim.Native.Nat.{ℕ, zero, suc, _-_, _*_, _/_, _%_, _^_, _<_}
@@ -32,21 +32,21 @@ unfoldable pub tabled : ℕ → (ℕ → Code) → ℕ → Cube
 tabled zero f i = []
 tabled (suc n) f i = f i ∷ tabled n f (suc i)
 
-unfoldable pub wide : List ℕ → Cube
-wide ws = tabled 320 (codeIn ws) 0
+unfoldable pub cubeOfWords : List ℕ → Cube
+cubeOfWords ws = tabled 320 (codeIn ws) 0
 
-unfoldable pub row : List (List ℕ) → ℕ → Cube
-row cuts j = wide (getD cuts j [])
+unfoldable pub rowCube : List (List ℕ) → ℕ → Cube
+rowCube cuts j = cubeOfWords (getD cuts j [])
 
 unfoldable pub cutsBelow : List (List ℕ) → ℕ → List Cube
 cutsBelow cuts zero = []
-cutsBelow cuts (suc n) = row cuts n ∷ cutsBelow cuts n
+cutsBelow cuts (suc n) = rowCube cuts n ∷ cutsBelow cuts n
 
 abbrev pub Openings : ℕ → ℕ → ℕ → Type 0
 Openings x y t = (k : ℕ) → k < 32 → placeAt t k ≡ bit (opens (codeOf (placeAt x k)) (codeOf (placeAt y k)))
 
-abbrev pub Gives : ℕ → ℕ → ℕ → ℕ → Type 0
-Gives x k v r = (placeAt r k ≡ v) × ((j : ℕ) → j < 32 → (j ≡ k → ⊥) → placeAt r j ≡ placeAt x j)
+abbrev pub GivenWord : ℕ → ℕ → ℕ → ℕ → Type 0
+GivenWord x k v r = (placeAt r k ≡ v) × ((j : ℕ) → j < 32 → (j ≡ k → ⊥) → placeAt r j ≡ placeAt x j)
 
 abbrev pub eitherCode : Code → Code → Code
 eitherCode none y = y

@@ -6,10 +6,10 @@ ghost use lib.ListN.{length};
 ghost use Rattle.model.specs.Cube.{shares};
 ghost use Rattle.model.specs.Walk.{visit};
 ghost use Rattle.visits.specs.Settle.{settle};
-ghost use Rattle.visits.specs.Words.{wide, row, cutsBelow};
+ghost use Rattle.visits.specs.Words.{cubeOfWords, rowCube, cutsBelow};
 ghost use Rattle.visits.specs.Alive.{Alive, Against};
 ghost use Rattle.visits.specs.Memory.{Memory};
-ghost use Rattle.visits.specs.Telling.{tells};
+ghost use Rattle.visits.specs.Replies.{tells};
 use super::alive::after_top;
 use super::alive::narrow;
 use super::alive::top;
@@ -35,8 +35,8 @@ pub(crate) fn visit(
     against: &[u64],
     slots: &mut [[u64; 22]],
 ) -> Reply
-    requires { ⌜ (n < length (now cuts)) × (length (now against) ≡ 640) × (a .left + a .spent < 2 ^ 32) × (shares (wide piece) (row (now cuts) n) ≡ true) × Alive (now cuts) n (wide piece) live × Against (now cuts) n (now against) × Memory (now cuts) (now slots) ⌝ }
-    ensures said { λ r. ⌜ tells r ≡ settle a (visit (cutsBelow (now (cuts .entry)) (suc n)) (wide piece)) ⌝ }
+    requires { ⌜ (n < length (now cuts)) × (length (now against) ≡ 640) × (a .left + a .spent < 2 ^ 32) × (shares (cubeOfWords piece) (rowCube (now cuts) n) ≡ true) × Alive (now cuts) n (cubeOfWords piece) live × Against (now cuts) n (now against) × Memory (now cuts) (now slots) ⌝ }
+    ensures said { λ r. ⌜ tells r ≡ settle a (visit (cutsBelow (now (cuts .entry)) (suc n)) (cubeOfWords piece)) ⌝ }
     ensures kept { λ r. ⌜ Memory (now (cuts .entry)) (now (slots .exit)) ⌝ }
 {
     if a.left == 0 {

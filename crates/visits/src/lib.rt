@@ -10,9 +10,9 @@ mod opening;
 mod reply;
 mod table;
 mod visit;
+pub mod walk;
 mod words;
 
 pub use allowance::Allowance;
 pub use allowance::Outcome;
 pub use allowance::Verdict;
-pub use long::walk;

@@ -5,8 +5,8 @@ ghost use lib.ListN.{length, getD, drop};
 ghost use Rattle.model.specs.Padding.{pad};
 ghost use Rattle.format.specs.Bytes.{codes};
 ghost use Rattle.cube.specs.Whole.{wholeAt};
-ghost use Rattle.visits.specs.Words.{wide};
-ghost use Rattle.visits.specs.Loading.{padded, Holds, Loaded};
+ghost use Rattle.visits.specs.Words.{cubeOfWords};
+ghost use Rattle.visits.specs.Loading.{padded, HoldsBytes, Loaded};
 
 // Byte b of the cube of q bytes that stands in s at an offset: free places behind its positions.
 fn byte(s: &[u8], at: usize, q: usize, b: usize) -> u64
@@ -19,7 +19,7 @@ fn byte(s: &[u8], at: usize, q: usize, b: usize) -> u64
 // The word of eight such bytes from byte b on.
 fn word(s: &[u8], at: usize, q: usize, b: usize) -> u64
     requires { ⌜ (q ≤ 80) × (b ≤ 72) × (at + q ≤ length (now s)) ⌝ }
-    ensures { λ r. ⌜ Holds (padded q (drop at (now (s .entry)))) 8 b r ⌝ }
+    ensures { λ r. ⌜ HoldsBytes (padded q (drop at (now (s .entry)))) 8 b r ⌝ }
 {
     let mut x = 0;
     let mut j = 0;
@@ -33,7 +33,7 @@ fn word(s: &[u8], at: usize, q: usize, b: usize) -> u64
 // The cube of q bytes that stands in s at an offset, in words.
 pub(crate) fn load(s: &[u8], at: usize, q: usize) -> [u64; 10]
     requires { ⌜ (q ≤ 80) × (at + q ≤ length (now s)) ⌝ }
-    ensures { λ r. ⌜ wide r ≡ pad (320 - 4 * q) (wholeAt q (now (s .entry)) at) ⌝ }
+    ensures { λ r. ⌜ cubeOfWords r ≡ pad (320 - 4 * q) (wholeAt q (now (s .entry)) at) ⌝ }
 {
     let mut ws = [18446744073709551615u64; 10];
     let mut w = 0;
@@ -60,7 +60,7 @@ pub(crate) fn load_cuts(cuts: &mut [[u64; 10]], s: &[u8], at: usize, n: usize, q
 
 // The bytes of a cube in words.
 pub(crate) fn unload(ws: &[u64; 10]) -> [u8; 80]
-    ensures { λ r. ⌜ codes r ≡ wide (now (ws .entry)) ⌝ }
+    ensures { λ r. ⌜ codes r ≡ cubeOfWords (now (ws .entry)) ⌝ }
 {
     let mut bytes = [0u8; 80];
     let mut b = 0;

@@ -1,23 +1,21 @@
-// The walk: plainly as long as it is short, and from the start over words where it is long.
+// The walk over words: the piece and the cuts are brought into words, visited there, and what survives is brought back.
 ghost use mathlib.Core.Path.{_≡_};
-ghost use Prim.Native.Nat.{suc, _+_, _-_, _*_, _^_, _≤_, _<_, min};
+ghost use Prim.Native.Nat.{suc, _+_, _*_, _^_, _≤_, _<_, min};
 ghost use mathlib.Core.Bool.{true, cond};
 ghost use lib.ListN.{length};
 ghost use Rattle.model.specs.Cube.{shares};
 ghost use Rattle.model.specs.Walk.{visit};
 ghost use Rattle.format.specs.Bytes.{codes};
 ghost use Rattle.cube.specs.Whole.{cubeOf, wholeAt, wholesAt};
-ghost use Rattle.visits.specs.Settle.{settle, view};
-ghost use Rattle.visits.specs.Words.{wide, row, cutsBelow};
-ghost use Rattle.visits.specs.Alive.{Alive, Against};
+ghost use Rattle.visits.specs.Settle.{settle, says};
+ghost use Rattle.visits.specs.Words.{cubeOfWords, rowCube, cutsBelow};
+ghost use Rattle.visits.specs.Alive.{Alive, Against, First};
 ghost use Rattle.visits.specs.Memory.{Memory};
-ghost use Rattle.visits.specs.Telling.{tells, First, Told, Resumed};
-ghost use Rattle.visits.specs.Walked.{possible, walked};
+ghost use Rattle.visits.specs.Replies.{tells, InBytes};
 use super::alive::after_top;
 use super::alive::top;
 use super::allowance::Allowance;
 use super::allowance::Outcome;
-use super::allowance::Verdict;
 use super::fast;
 use super::load::load;
 use super::load::load_cuts;
@@ -26,11 +24,7 @@ use super::reply::Reply;
 use super::reply::last;
 use super::table::alive_of;
 use super::table::enter_all;
-use super::visit;
 use cube::meets;
-
-// How many pieces are visited plainly: as many as the words cost to set up.
-const FEW: u32 = 100;
 
 // How many of the cuts have a digit: the last 64.
 fn digits(left: usize) -> usize
@@ -62,8 +56,8 @@ fn begin(
     against: &[u64],
     slots: &mut [[u64; 22]],
 ) -> Reply
-    requires { ⌜ (n < length (now cuts)) × (length (now against) ≡ 640) × (a .left + a .spent < 2 ^ 32) × (first ≡ true → shares (wide p) (row (now cuts) n) ≡ true) × Alive (now cuts) n (wide p) alive × Against (now cuts) n (now against) × Memory (now cuts) (now slots) ⌝ }
-    ensures { λ r. ⌜ tells r ≡ settle a (visit (cutsBelow (now (cuts .entry)) (cond first (suc n) n)) (wide p)) ⌝ }
+    requires { ⌜ (n < length (now cuts)) × (length (now against) ≡ 640) × (a .left + a .spent < 2 ^ 32) × (first ≡ true → shares (cubeOfWords p) (rowCube (now cuts) n) ≡ true) × Alive (now cuts) n (cubeOfWords p) alive × Against (now cuts) n (now against) × Memory (now cuts) (now slots) ⌝ }
+    ensures { λ r. ⌜ tells r ≡ settle a (visit (cutsBelow (now (cuts .entry)) (cond first (suc n) n)) (cubeOfWords p)) ⌝ }
 {
     if first {
         return fast::visit(p, n, alive, a, cuts, against, slots);
@@ -76,8 +70,8 @@ fn begin(
 }
 
 // A reply with its piece in bytes.
-fn told(r: Reply) -> Outcome
-    ensures { λ o. ⌜ Told r o ⌝ }
+fn in_bytes(r: Reply) -> Outcome
+    ensures { λ o. ⌜ InBytes r o ⌝ }
 {
     let allowance = r.allowance;
     let verdict = r.verdict;
@@ -91,9 +85,16 @@ fn told(r: Reply) -> Outcome
 }
 
 // As `visit`, over words.
-fn long_walk(q: usize, piece: [u8; 80], s: &[u8], at: usize, left: usize, a: Allowance) -> Outcome
+pub(crate) fn long_walk(
+    q: usize,
+    piece: [u8; 80],
+    s: &[u8],
+    at: usize,
+    left: usize,
+    a: Allowance,
+) -> Outcome
     requires { ⌜ (q ≤ 80) × (at + left * q ≤ length (now s)) × (left ≤ 65) × (a .left + a .spent < 2 ^ 32) ⌝ }
-    ensures { λ r. ⌜ view q r ≡ settle a (visit (wholesAt q (now (s .entry)) at left) (cubeOf q piece)) ⌝ }
+    ensures { λ r. ⌜ says q r ≡ settle a (visit (wholesAt q (now (s .entry)) at left) (cubeOf q piece)) ⌝ }
 {
     let mut cuts = [[0u64; 10]; 65];
     load_cuts(&mut cuts, s, at, left, q);
@@ -103,7 +104,7 @@ fn long_walk(q: usize, piece: [u8; 80], s: &[u8], at: usize, left: usize, a: All
     let alive = alive_of(&piece[0..q], s, at + (left - n) * q, n);
     let first = first_meets(&piece[0..q], s, at, left);
     let mut slots = [[0u64; 22]; 251];
-    told(begin(
+    in_bytes(begin(
         load(&piece, 0, q),
         n,
         first,
@@ -113,78 +114,4 @@ fn long_walk(q: usize, piece: [u8; 80], s: &[u8], at: usize, left: usize, a: All
         &against,
         &mut slots,
     ))
-}
-
-// What a visit on a smaller allowance says on the allowance a.
-fn resumed(a: Allowance, r: Outcome) -> Outcome
-    requires { ⌜ (a .spent ≤ r .allowance .spent) × (r .allowance .spent - a .spent ≤ a .left) ⌝ }
-    ensures { λ o. ⌜ Resumed a r o ⌝ }
-{
-    let had = r.allowance;
-    let verdict = r.verdict;
-    let piece = r.piece;
-    Outcome {
-        allowance: Allowance {
-            left: a.left - (had.spent - a.spent),
-            spent: had.spent,
-        },
-        verdict,
-        piece,
-    }
-}
-
-// As `visit`, and fast where the walk is long.
-fn walk_within(q: usize, piece: [u8; 80], s: &[u8], at: usize, left: usize, a: Allowance) -> Outcome
-    requires { ⌜ (q ≤ 80) × (at + left * q ≤ length (now s)) × (left ≤ 65) × (a .left + a .spent < 2 ^ 32) ⌝ }
-    ensures { λ r. ⌜ view q r ≡ settle a (visit (wholesAt q (now (s .entry)) at left) (cubeOf q piece)) ⌝ }
-{
-    if a.left <= FEW {
-        return visit::visit(q, piece, s, at, left, a);
-    }
-    let few = Allowance {
-        left: FEW,
-        spent: a.spent,
-    };
-    let r = visit::visit(q, piece, s, at, left, few);
-    let k = r.verdict;
-    let Verdict::Undecided = k else {
-        return resumed(a, r);
-    };
-    long_walk(q, piece, s, at, left, a)
-}
-
-// Whether the walk can be: its cubes are no wider than those of a header, its cuts no more than inclusion has, they stand in n bytes, and its allowance is one.
-fn possible(n: usize, q: usize, at: usize, left: usize, a: Allowance) -> bool
-    ensures { λ r. ⌜ r ≡ possible n q at left a ⌝ }
-{
-    if 80 < q {
-        return false;
-    }
-    if 65 < left {
-        return false;
-    }
-    if n < at {
-        return false;
-    }
-    if n - at < left * q {
-        return false;
-    }
-    if 4294967295 - a.left < a.spent {
-        return false;
-    }
-    true
-}
-
-// Walks the piece in the first q bytes of `piece` with the `left` cuts of q bytes that stand in s from `at` on. Where that cannot be, nothing is visited.
-pub fn walk(q: usize, piece: [u8; 80], s: &[u8], at: usize, left: usize, a: Allowance) -> Outcome
-    ensures { λ r. ⌜ view q r ≡ walked q piece (now (s .entry)) at left a ⌝ }
-{
-    if !possible(s.len(), q, at, left, a) {
-        return Outcome {
-            allowance: a,
-            verdict: Verdict::Undecided,
-            piece,
-        };
-    }
-    walk_within(q, piece, s, at, left, a)
 }

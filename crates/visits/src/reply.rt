@@ -2,8 +2,8 @@
 ghost use mathlib.Core.Path.{_≡_};
 ghost use Prim.Native.Nat.{_+_, _^_, _<_};
 ghost use Rattle.visits.specs.Settle.{settle};
-ghost use Rattle.visits.specs.Words.{wide};
-ghost use Rattle.visits.specs.Telling.{tells, survives, Pays};
+ghost use Rattle.visits.specs.Words.{cubeOfWords};
+ghost use Rattle.visits.specs.Replies.{tells, survives, Pays};
 use super::allowance::Allowance;
 use super::allowance::Verdict;
 
@@ -42,7 +42,7 @@ pub(crate) fn pay(have: Allowance, k: u64, piece: [u64; 10]) -> Reply
 // A visit of a piece that no cut meets.
 pub(crate) fn last(have: Allowance, piece: [u64; 10]) -> Reply
     requires { ⌜ have .left + have .spent < 2 ^ 32 ⌝ }
-    ensures { λ r. ⌜ tells r ≡ settle have (survives (wide piece)) ⌝ }
+    ensures { λ r. ⌜ tells r ≡ settle have (survives (cubeOfWords piece)) ⌝ }
 {
     if have.left == 0 {
         return Reply {

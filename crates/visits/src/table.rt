@@ -3,7 +3,7 @@ ghost use mathlib.Core.Path.{_≡_};
 ghost use Prim.Native.Nat.{ℕ, _+_, _*_, _^_, _≤_, _<_};
 ghost use lib.ListN.{length, getD};
 ghost use Rattle.format.specs.Bytes.{codes};
-ghost use Rattle.visits.specs.Words.{wide};
+ghost use Rattle.visits.specs.Words.{cubeOfWords};
 ghost use Rattle.visits.specs.Alive.{Against};
 ghost use Rattle.visits.specs.Loading.{Entered, Met};
 use super::alive::digit_of;
@@ -15,7 +15,7 @@ use cube::meets;
 // Enters a cut, whose digit is `one`, at each value that it clashes with.
 fn enter(against: &mut [u64], cut: &[u64; 10], one: u64)
     requires { ⌜ (length (now against) ≡ 640) × ((k : ℕ) → k < 640 → getD (now against) k 0 + one < 2 ^ 64) ⌝ }
-    ensures { λ r. ⌜ Entered (now (against .entry)) (wide (now (cut .entry))) one (now (against .exit)) ⌝ }
+    ensures { λ r. ⌜ Entered (now (against .entry)) (cubeOfWords (now (cut .entry))) one (now (against .exit)) ⌝ }
 {
     let mut near = [18446744073709551615u64; 10];
     let mut i = next_open(&near, cut, 0);

@@ -8,14 +8,14 @@ ghost use Rattle.format.specs.Bytes.{codes};
 ghost use Rattle.cube.specs.Whole.{cubeOf, wholeAt, wholesAt};
 ghost use Rattle.visits.specs.Cuts.{Skipped};
 ghost use Rattle.visits.specs.Opening.{firstOpen};
-ghost use Rattle.visits.specs.Settle.{settle, view};
+ghost use Rattle.visits.specs.Settle.{settle, says};
 use super::allowance::Allowance;
 use super::allowance::Outcome;
 use super::allowance::Verdict;
-use super::codes::code_at;
 use super::codes::give;
 use super::codes::other;
 use super::opening::next_open;
+use cube::code_at;
 use cube::meets;
 
 // Where the next cut that meets a piece stands, and how many are left from there on.
@@ -69,7 +69,7 @@ pub(crate) fn visit(
     a: Allowance,
 ) -> Outcome
     requires { ⌜ (q ≤ 80) × (at + left * q ≤ length (now s)) × (a .left + a .spent < 2 ^ 32) ⌝ }
-    ensures { λ r. ⌜ view q r ≡ settle a (visit (wholesAt q (now (s .entry)) at left) (cubeOf q piece)) ⌝ }
+    ensures { λ r. ⌜ says q r ≡ settle a (visit (wholesAt q (now (s .entry)) at left) (cubeOf q piece)) ⌝ }
 {
     if a.left == 0 {
         return Outcome {

@@ -4,7 +4,7 @@ ghost use Prim.Native.Nat.{_+_, _-_, _*_, _/_, _^_, _≤_, _<_};
 ghost use lib.Count.{leadingZeros};
 ghost use lib.ListN.{length, getD};
 ghost use Rattle.visits.specs.Opening.{firstOpen};
-ghost use Rattle.visits.specs.Words.{placeAt, numberIn, wide, Openings, Gives};
+ghost use Rattle.visits.specs.Words.{placeAt, numberIn, cubeOfWords, Openings, GivenWord};
 
 // A digit 1 of base 4 for each place where a cut's word y opens a piece's word x.
 fn open_marks(x: u64, y: u64) -> u64
@@ -22,8 +22,8 @@ fn first_place(t: u64) -> usize
 
 // The first position that the cut opens, and 320 where it opens none; the words before `from` have none.
 pub(crate) fn next_open(near: &[u64; 10], cut: &[u64; 10], from: usize) -> usize
-    requires { ⌜ (from ≤ 10) × (32 * from ≤ firstOpen (wide (now near)) (wide (now cut))) ⌝ }
-    ensures { λ r. ⌜ r ≡ firstOpen (wide (now (near .entry))) (wide (now (cut .entry))) ⌝ }
+    requires { ⌜ (from ≤ 10) × (32 * from ≤ firstOpen (cubeOfWords (now near)) (cubeOfWords (now cut))) ⌝ }
+    ensures { λ r. ⌜ r ≡ firstOpen (cubeOfWords (now (near .entry))) (cubeOfWords (now (cut .entry))) ⌝ }
 {
     let mut w = from;
     while w < 10 {
@@ -47,7 +47,7 @@ pub(crate) fn number_in(ws: &[u64; 10], i: usize) -> u64
 // The word x with the code v at place k, where it has the code 3.
 pub(crate) fn given(x: u64, k: usize, v: u64) -> u64
     requires { ⌜ (k < 32) × (v ≤ 3) × (placeAt x k ≡ 3) ⌝ }
-    ensures { λ r. ⌜ Gives x k v r ⌝ }
+    ensures { λ r. ⌜ GivenWord x k v r ⌝ }
 {
     x - ((3 - v) << (62 - 2 * k))
 }

@@ -1,8 +1,6 @@
 -- What the proofs of several functions use, and what is proved of the definitions alone.
 pub mod Frees
-pub mod Telling
 pub mod Recorded
-pub mod Shown
 pub mod Accepted
 pub mod Emptied
 pub mod Moved

@@ -6,17 +6,17 @@ ghost use Prim.Native.Nat.{_+_, _*_, _≤_, _<_};
 ghost use lib.ListN.{length};
 ghost use Rattle.model.specs.Cube.{shares};
 ghost use Rattle.model.specs.Ceiling.{frees, ceilingFrom, capped};
+ghost use Rattle.format.specs.Limits.{widest, widestCube};
 ghost use Rattle.format.specs.Bytes.{codes};
 ghost use Rattle.format.specs.Calls.{ceiling-of};
 ghost use Rattle.cube.specs.Count.{freeCount};
 ghost use Rattle.cube.specs.Whole.{wholesAt};
 use answer::Answer;
-use cube::WIDEST;
 use cube::cube_len;
 use cube::free_places;
 use cube::meets;
-use region::count_at;
-use region::difference_fault;
+use region::front_at;
+use region::one_refusal;
 
 // How many places of a byte hold code 3.
 fn places(b: u8) -> u64
@@ -27,8 +27,8 @@ fn places(b: u8) -> u64
 
 // How many positions a cut fixes and the base leaves free: those that are free in the base and not in their meet.
 fn opened_by(base: &[u8], cut: &[u8]) -> u64
-    requires { ⌜ (length (now base) ≡ length (now cut)) × (length (now base) ≤ 80) × (shares (codes (now base)) (codes (now cut)) ≡ true) ⌝ }
-    ensures { λ r. ⌜ (r ≡ frees (codes (now (base .entry))) (codes (now (cut .entry)))) × (r ≤ 320) ⌝ }
+    requires { ⌜ (length (now base) ≡ length (now cut)) × (length (now base) ≤ widestCube) × (shares (codes (now base)) (codes (now cut)) ≡ true) ⌝ }
+    ensures { λ r. ⌜ (r ≡ frees (codes (now (base .entry))) (codes (now (cut .entry)))) × (r ≤ widest) ⌝ }
 {
     let mut all: u64 = 0;
     let mut met: u64 = 0;
@@ -43,7 +43,7 @@ fn opened_by(base: &[u8], cut: &[u8]) -> u64
 
 // One cut more that meets the base: 1 + f times the ceiling of the cuts after it, capped.
 fn raised(f: u64, n: u32) -> u32
-    requires { ⌜ f ≤ 320 ⌝ }
+    requires { ⌜ f ≤ widest ⌝ }
     ensures { λ r. ⌜ r ≡ capped (1 + f * n) ⌝ }
 {
     let x = 1 + f * (n as u64);
@@ -55,7 +55,7 @@ fn raised(f: u64, n: u32) -> u32
 
 // The capped ceiling with one cut more in front of those whose capped ceiling is n.
 fn climbed(base: &[u8], cut: &[u8], n: u32) -> u32
-    requires { ⌜ (length (now base) ≡ length (now cut)) × (length (now base) ≤ 80) ⌝ }
+    requires { ⌜ (length (now base) ≡ length (now cut)) × (length (now base) ≤ widestCube) ⌝ }
     ensures apart { λ r. ⌜ (shares (codes (now (base .entry))) (codes (now (cut .entry))) ≡ false → r ≡ n) ⌝ }
     ensures met { λ r. ⌜ (shares (codes (now (base .entry))) (codes (now (cut .entry))) ≡ true → r ≡ capped (1 + frees (codes (now (base .entry))) (codes (now (cut .entry))) * n)) ⌝ }
 {
@@ -67,7 +67,7 @@ fn climbed(base: &[u8], cut: &[u8], n: u32) -> u32
 
 // The capped ceiling of the base with the `left` cuts of as many bytes that stand in s from `at` on, the last cut first.
 fn bound(base: &[u8], s: &[u8], at: usize, left: usize) -> u32
-    requires { ⌜ (length (now base) ≤ 80) × (at + left * length (now base) ≤ length (now s)) ⌝ }
+    requires { ⌜ (length (now base) ≤ widestCube) × (at + left * length (now base) ≤ length (now s)) ⌝ }
     ensures { λ r. ⌜ r ≡ capped (ceilingFrom (codes (now (base .entry))) (wholesAt (length (now (base .entry))) (now (s .entry)) at left)) ⌝ }
 {
     let mut n: u32 = 1;
@@ -86,16 +86,12 @@ fn bound(base: &[u8], s: &[u8], at: usize, left: usize) -> u32
 pub fn ceiling(w: usize, s: &[u8]) -> Answer
     ensures { λ r. ⌜ r ≡ ceiling-of w (now (s .entry)) .answer ⌝ }
 {
-    if w == 0 {
-        return Answer::said(10);
+    let refusal = one_refusal(w, s);
+    if refusal.number != 0 {
+        return refusal;
     }
-    if WIDEST < w {
-        return Answer::said(10);
-    }
-    let fault = difference_fault(s, 0, w, 0, true);
-    if fault != 0 {
-        return Answer::fault(fault, 1, 0);
-    }
-    let cuts = 5 + cube_len(w);
-    Answer::counted(0, bound(&s[5..cuts], s, cuts, count_at(s, 0)))
+    let front = front_at(s, 0);
+    let base = front.base;
+    let cuts = base + cube_len(w);
+    Answer::counted(0, bound(&s[base..cuts], s, cuts, front.cuts))
 }

@@ -9,17 +9,17 @@ ghost use Rattle.format.specs.Records.{widthOf};
 ghost use Rattle.format.specs.Files.{readFile, faultNumber, regionIn};
 ghost use Rattle.format.specs.Told.{over};
 ghost use Rattle.format.specs.Calls.{diff-empty, region-empty};
-ghost use Rattle.visits.specs.Settle.{settle, view};
+ghost use Rattle.visits.specs.Settle.{settle, says};
 use super::record::walk_record;
 use super::told::tell;
 use answer::Answer;
-use cube::WIDEST;
+use cube::WIDEST_CUBE;
 use cube::cube_len;
 use cube::header_len;
-use region::FIRST;
 use region::check_file;
-use region::difference_fault;
-use region::next_at;
+use region::first_at;
+use region::front_at;
+use region::one_refusal;
 use visits::Allowance;
 use visits::Outcome;
 use visits::Verdict;
@@ -30,15 +30,9 @@ pub fn diff_empty(w: usize, s: &[u8], allowance: u32, out: &mut [u8]) -> Answer
     ensures answer { λ r. ⌜ r ≡ diff-empty w (now (s .entry)) allowance (length (now (out .entry))) .answer ⌝ }
     ensures bytes { λ _. ⌜ now (out .exit) ≡ over (now (out .entry)) (diff-empty w (now (s .entry)) allowance (length (now (out .entry))) .bytes) ⌝ }
 {
-    if w == 0 {
-        return Answer::said(10);
-    }
-    if WIDEST < w {
-        return Answer::said(10);
-    }
-    let fault = difference_fault(s, 0, w, 0, true);
-    if fault != 0 {
-        return Answer::fault(fault, 1, 0);
+    let refusal = one_refusal(w, s);
+    if refusal.number != 0 {
+        return refusal;
     }
     if out.len() < header_len(w) {
         return Answer::said(22);
@@ -47,29 +41,30 @@ pub fn diff_empty(w: usize, s: &[u8], allowance: u32, out: &mut [u8]) -> Answer
         left: allowance,
         spent: 0,
     };
-    tell(walk_record(cube_len(w), s, 0, start), w, out)
+    tell(walk_record(cube_len(w), s, front_at(s, 0), start), w, out)
 }
 
 // Walks the differences of an accepted file, whose cubes have q bytes, one after another on one allowance, up to the first that is not covered.
 fn walk_file(q: usize, s: &[u8], a: Allowance) -> Outcome
     requires { ⌜ (q ≡ cubeLen (widthOf (now s))) × (faultNumber (readFile (now s)) ≡ 0) × (a .left + a .spent < 2 ^ 32) ⌝ }
-    ensures { λ r. ⌜ view q r ≡ settle a (padFound (unused (widthOf (now (s .entry)))) (walkRegion (regionIn (now (s .entry))))) ⌝ }
+    ensures { λ r. ⌜ says q r ≡ settle a (padFound (unused (widthOf (now (s .entry)))) (walkRegion (regionIn (now (s .entry))))) ⌝ }
 {
     let mut have = a;
-    let mut at = FIRST;
+    let mut at = first_at(s);
     while at < s.len() {
-        let v = walk_record(q, s, at, have);
+        let front = front_at(s, at);
+        let v = walk_record(q, s, front, have);
         let k = v.verdict;
         let Verdict::Covered = k else {
             return v;
         };
         have = v.allowance;
-        at = next_at(s, at);
+        at = front.next;
     }
     Outcome {
         allowance: have,
         verdict: Verdict::Covered,
-        piece: [255u8; 80],
+        piece: [255u8; WIDEST_CUBE],
     }
 }
 

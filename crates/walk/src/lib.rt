@@ -1,8 +1,6 @@
 // The walk of records and region files on an allowance: emptiness, inclusion, the ceiling.
 mod ceilings;
-mod copying;
 mod empty;
-mod header;
 mod inclusion;
 mod record;
 mod told;

@@ -1,9 +1,9 @@
 -- `desk::main` meets its contract. The buffers have their lengths by the law of a repeat: to count out so many zeros takes the checker too long.
 -- Assumes nothing.
-use borrow.Author.Needs.{needs}
 use Prim.Native.Nat.{ℕ}
 use mathlib.Core.Path.{sym}
 use lib.ListN.{length-replicate}
+use borrow.Author.Needs.{needs}
 use Rattle.desk.proofs.main.Statement.{statement}
 use Rattle.desk.proofs.main.Tie as tie
 
@@ -14,7 +14,7 @@ slice-aggregate-answer-all-2 : tie.Need-slice-aggregate-answer-all-2
 slice-aggregate-answer-all-2 c = sym (length-replicate {A = ℕ} 1048576 0)
 
 slice-aggregate-answer-all-3 : tie.Need-slice-aggregate-answer-all-3
-slice-aggregate-answer-all-3 c = sym (length-replicate {A = ℕ} 65536 0)
+slice-aggregate-answer-all-3 c = sym (length-replicate {A = ℕ} 2097152 0)
 
 answer-all-requires : tie.Need-answer-all-requires
 answer-all-requires c κs = search needs

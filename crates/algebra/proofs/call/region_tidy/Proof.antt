@@ -1,13 +1,10 @@
-use native.Mathlib.Omega.{arith}
-use mathlib.Core.Path.{refl}
-use lib.ListN.{length}
-use Rattle.format.proofs.Filing.{File}
-use Rattle.format.specs.Calls.{region-tidy}
-use Rattle.region.proofs.Onward.{file-read}
-use Rattle.algebra.proofs.Standing.{file-runs, tidy-stand}
-use Rattle.algebra.proofs.Telling.{silent-tells}
-use Rattle.algebra.proofs.Calling.{told-tells, file-refused, region-tidy-told}
+-- `algebra::call::region_tidy` meets its contract. Assumes nothing.
 use borrow.Author.Needs.{needs}
+use Rattle.format.specs.Calls.{region-tidy}
+use Rattle.format.proofs.Lending.{silent-out, told-out}
+use Rattle.format.proofs.Filing.{File}
+use Rattle.region.proofs.Onward.{file-read}
+use Rattle.algebra.proofs.Calling.{file-fault, region-tidy-stand, region-tidy-told}
 use Rattle.algebra.proofs.call.region_tidy.Statement.{statement}
 use Rattle.algebra.proofs.call.region_tidy.Tie as tie
 
@@ -22,20 +19,26 @@ fault-requires c κs = search needs
 
 returns : tie.Need-returns
 unfolding region-tidy
-returns c = silent-tells (c .fault .ensures) refl (file-refused (c .before .before .before .before .before .before .args .s .now) 1 _ (c .before .before .before .check-file .ensures) (c .before .if1 .taken))
+returns c = silent-out (c .fault .ensures) (file-fault (c .before .before .before .check-file .ensures) (c .before .if1 .taken) 1 _)
+
+first-at-requires : tie.Need-first-at-requires
+first-at-requires c κs = search needs
 
 write-region-requires : tie.Need-write-region-requires
 write-region-requires c κs =
-    let f = file (c .before) in
-    rw (c .before .before .before .check-file .ensures .width) (f .width .narrow, tidy-stand _ (f .width .some) (f .width .narrow) (c .before .before .before .before .before .before .args .s .now) (file-runs f) (omega (arith, f .width .long)))
+    rw (c .before .before .before .before .check-file .ensures .width, c .before .first-at .ensures) (region-tidy-stand (file (c .before .before)))
 
 same-length : tie.Need-same-length
 same-length c = search needs
 
 returns-2 : tie.Need-returns-2
 returns-2 c =
-    let p = c .before .before .before .before .before .before .before .before .before .args in
-    told-tells (c .before .before .write-region .result) (p .out .now) _ (region-tidy-told (p .s .now) (length (p .out .now)) (file (c .before .before .before .before))) (rw (c .before .before .before .before .before .before .check-file .ensures .width) at (c .before .before .write-region .ensures))
+    let w = c .before .before in
+    let a = w .before .before in
+    let i = a .before in
+    let f = i .before .before in
+    let e = rw (f .check-file .ensures .width, a .first-at .ensures) at (w .write-region .ensures) in
+    told-out _ (e .answer) (e .buffer) (region-tidy-told (file i) _)
 
 pub region-tidy-spec : {M : Type 1} → statement M
 region-tidy-spec =
@@ -44,6 +47,7 @@ region-tidy-spec =
     check-file-requires
     fault-requires
     returns
+    first-at-requires
     write-region-requires
     same-length
     returns-2)

@@ -1,12 +1,12 @@
+-- `algebra::compare::one_of` meets its contract. Assumes nothing.
 use Prim.Native.Nat.{_+_, _*_, _≤_}
 use native.Mathlib.Omega.{arith}
 use mathlib.Core.Path.{_≡_, refl, sym, _∙_}
 use lib.ListN.{length}
-use Rattle.model.specs.Tidy.{among}
-use Rattle.cube.proofs.Wholes.{whole-part}
-use Rattle.cube.specs.Whole.{wholeAt, wholesAt}
-use Rattle.algebra.proofs.Wholes.{row-room, wholes-none, among-found, among-passed}
 use borrow.Author.Needs.{needs}
+use Rattle.model.specs.Tidy.{among}
+use Rattle.cube.specs.Whole.{wholeAt, wholesAt}
+use Rattle.cube.proofs.Wholes.{whole-part, row-room, wholes-none, among-found, among-passed}
 use Rattle.algebra.proofs.compare.one_of.Statement.{statement}
 use Rattle.algebra.proofs.compare.one_of.Tie as tie
 

@@ -1,16 +1,16 @@
-use Prim.Native.Nat.{_*_}
+-- `algebra::result::write_region` meets its contract. Assumes nothing.
+use Prim.Native.Nat.{ℕ, _*_}
 use native.Mathlib.Omega.{arith}
-use mathlib.Core.Path.{_≡_, refl, sym, ap, _∙_}
-use mathlib.Core.List.{_++_}
+use mathlib.Core.Path.{_≡_, refl, sym, _∙_}
+use mathlib.Core.List.{List, _++_}
 use lib.ListN.{length, take}
+use borrow.Author.Needs.{needs}
 use Rattle.model.specs.Difference.{Region}
 use Rattle.format.specs.Bytes.{cubeLen}
 use Rattle.format.specs.Records.{widthBytes, differencesBytes}
-use Rattle.format.specs.Told.{Told, over}
+use Rattle.cube.proofs.Laying.{put-fits, behind-back}
+use Rattle.algebra.proofs.Measured.{nothing-back, result-long, result-many, result-few, result-size, result-short, result-written}
 use Rattle.algebra.specs.Totals.{total, Counted}
-use Rattle.algebra.proofs.Laying.{behind-back}
-use Rattle.algebra.proofs.Telling.{nothing-back, silent-tells, result-long, result-many, result-few, result-size, result-short, result-written}
-use borrow.Author.Needs.{needs}
 use Rattle.algebra.proofs.result.write_region.Statement.{statement}
 use Rattle.algebra.proofs.result.write_region.Tie as tie
 
@@ -22,11 +22,14 @@ module _ (c : tie.After-run) where
   abbrev whole : Region
   whole = let p = start .args in total (p .operation) (cubeLen (p .w)) (p .s .now) (p .a) (p .t .now) (p .x)
 
-  counted : Counted (cubeLen (start .args .w)) whole (take 0 (start .args .out .now)) (c .run .last .1 .1 .1 .1 .1 .1 .0) (c .run .result)
+  abbrev rest : List ℕ
+  rest = c .run .last .1 .1 .1 .1 .1 .1 .0
+
+  counted : Counted (cubeLen (start .args .w)) whole (take 0 (start .args .out .now)) rest (c .run .result)
   counted = rw (c .before .before .cube-len .ensures) at (c .run .ensures)
 
-  same : c .run .last .1 .1 .1 .1 .1 .1 .0 ++ start .args .out .now ≡ start .args .out .now
-  same = nothing-back (c .run .last .1 .1 .1 .1 .1 .1 .0) (start .args .out .now) (c .run .kept .1 .1 .1 .1 .1 .1 .0)
+  same : rest ++ start .args .out .now ≡ start .args .out .now
+  same = nothing-back rest (start .args .out .now) (c .run .kept .1 .1 .1 .1 .1 .1 .0)
 
 cube-len-requires : tie.Need-cube-len-requires
 cube-len-requires c κs = search needs
@@ -52,8 +55,7 @@ same-length c = search needs
 returns : tie.Need-returns
 returns c =
     let d = c .before .before .before .before in
-    let p = start d .args in
-    silent-tells (c .said .ensures) (same d) (result-long (p .w) (whole d) _ _ (d .run .result) (length (p .out .now)) (counted d) (c .before .if1 .taken))
+    rw (← result-long (start d .args .w) _ (counted d) (c .before .if1 .taken)) (record { answer = c .said .ensures; buffer = same d })
 
 said-requires-2 : tie.Need-said-requires-2
 said-requires-2 c κs = search needs
@@ -64,8 +66,8 @@ same-length-2 c = search needs
 returns-2 : tie.Need-returns-2
 returns-2 c =
     let d = c .before .before .before .before .before .before in
-    let p = start d .args in
-    silent-tells (c .said2 .ensures) (same d) (result-many (p .w) (whole d) _ _ (d .run .result) (length (p .out .now)) (counted d) (c .before .before .before .if1 .left) (c .before .if2 .taken))
+    rw (← result-many (start d .args .w) _ (counted d) (c .before .before .before .if1 .left) (c .before .if2 .taken))
+    (record { answer = c .said2 .ensures; buffer = same d })
 
 add-size : tie.Need-add-size
 add-size c = search needs
@@ -78,9 +80,11 @@ same-length-3 c = search needs
 
 returns-3 : tie.Need-returns-3
 returns-3 c =
-    let d = c .before .before .before .before .before .before .before .before in
-    let p = start d .args in
-    silent-tells (c .said3 .ensures) (same d) (result-short (p .w) (whole d) _ _ (d .run .result) (length (p .out .now)) (counted d) (c .before .before .before .before .before .if1 .left) (c .before .before .before .if2 .left) (rw (same d) at (c .before .if3 .taken)))
+    let j = c .before .before .before in
+    let i = j .before .before in
+    let d = i .before .before .before in
+    let short = rw (same d) at (c .before .if3 .taken) in
+    rw (← result-short (start d .args .w) _ (counted d) (i .if1 .left) (j .if2 .left) short) (record { answer = c .said3 .ensures; buffer = same d })
 
 put-width-requires : tie.Need-put-width-requires
 put-width-requires c κs = search needs
@@ -95,7 +99,9 @@ part-run-end-2 : tie.Need-part-run-end-2
 part-run-end-2 c = search needs
 
 run-requires-2 : tie.Need-run-requires-2
-run-requires-2 c κs = rw (c .before .before .before .before .before .before .before .before .before .before .before .before .before .before .cube-len .ensures) (c .before .before .before .before .before .before .before .before .before .before .before .before .before .before .before .before .before .before .pre .1)
+run-requires-2 c κs =
+    let d = c .before .before .before .before .before .before .before .before .before .before .before .before in
+    rw (d .before .before .cube-len .ensures) (start d .pre .1)
 
 wrote-requires : tie.Need-wrote-requires
 wrote-requires c κs = search needs
@@ -105,21 +111,25 @@ same-length-4 c = search needs
 
 returns-4 : tie.Need-returns-4
 returns-4 c =
-    let d = c .before .before .before .before .before .before .before .before .before .before .before .before .before .before .before .before in
+    let w = c .before .before .before .before .before .before .before in
+    let k = w .before .before in
+    let j = k .before .before in
+    let i = j .before .before in
+    let d = i .before .before .before in
     let p = start d .args in
-    let n = c .before .before .before .before .before .before .before .before .before .before .before .before .before .if1 .left in
-    let f = c .before .before .before .before .before .before .before .before .before .before .before .if2 .left in
-    let r = whole d in
-    let room = rw (same d) at (c .before .before .before .before .before .before .before .before .before .if3 .left) in
-    let told = result-written (p .w) r _ _ (d .run .result) (length (p .out .now)) (counted d) n f room in
+    let out = p .out .now in
+    let fits = rw (same d) at (k .if3 .left) in
+    let told = result-written (p .w) (length out) (counted d) (i .if1 .left) (j .if2 .left) fits in
+    let size = result-size (p .w) (length out) (counted d) (i .if1 .left) (j .if2 .left) in
+    let few = result-few (p .w) (length out) (counted d) (i .if1 .left) (j .if2 .left) in
     let again = rw (d .before .before .cube-len .ensures) at (c .before .before .before .run2 .ensures) in
-    let z = result-size (p .w) r _ _ (d .run .result) (length (p .out .now)) (counted d) n f in
-    let few = result-few (p .w) r _ _ (d .run .result) (length (p .out .now)) (counted d) n f in
-    let out = rw (same d) at (c .before .before .before .before .before .before .before .put-width .ensures) in (
-      c .wrote .ensures ∙ ap (λ (x : Told). x .answer) told,
-      behind-back (p .out .now) (widthBytes (p .w)) (differencesBytes (4 * cubeLen (p .w)) r) _ (c .before .before .before .before .before .before .before .put-width .last .0) 6 _ refl out refl (omega (arith, z, room)) (λ h. again .written (again .long ∙ sym (counted d .long) ∙ n) few h)
-          ∙ ap (λ (x : Told). over (p .out .now) (x .bytes)) told,
-    )
+    let front = rw (same d) at (w .put-width .ensures) ∙ put-fits out 0 (widthBytes (p .w)) (omega (arith, fits)) in
+    rw (← told)
+    (record {
+      answer = c .wrote .ensures;
+      buffer = behind-back out (widthBytes (p .w)) (differencesBytes (4 * cubeLen (p .w)) (whole d)) _ (w .put-width .last .0) (length (widthBytes (p .w))) _
+          refl front refl (omega (arith, size, fits)) (λ h. again .written (again .long ∙ sym (counted d .long) ∙ i .if1 .left) few h);
+    })
 
 pub write-region-spec : {M : Type 1} → statement M
 write-region-spec =

@@ -1,21 +1,21 @@
-use mathlib.Core.List.{List}
-use Prim.Native.Nat.{ℕ}
-use Rattle.algebra.proofs.Taking.{slot, cut-apart, cut-covered, cut-again, cut-more}
-use Prim.Native.Nat.{_-_}
+-- `algebra::tidying::take_cut` meets its contract. Assumes nothing.
+use Prim.Native.Nat.{ℕ, _-_}
 use native.Mathlib.Omega.{arith}
+use mathlib.Core.List.{List}
 use mathlib.Core.Path.{_≡_, refl, sym, _∙_}
 use mathlib.Core.Bool.{true}
 use lib.ListN.{length, take, drop}
 use borrow.Author.Tests.{not-true, not-false}
 use borrow.Rule.Slice.PartMut.{putMid}
+use borrow.Author.Needs.{needs}
 use Rattle.model.specs.Cube.{shares}
 use Rattle.format.specs.Bytes.{codes}
 use Rattle.cube.specs.Pair.{andBytes}
 use Rattle.cube.proofs.Wholes.{whole-part}
 use Rattle.cube.specs.Whole.{wholeAt}
-use Rattle.algebra.specs.Lay.{laid}
+use Rattle.cube.specs.Lay.{laid}
+use Rattle.algebra.proofs.Taking.{slot, cut-apart, cut-covered, cut-again, cut-more}
 use Rattle.algebra.proofs.Meeting.{met-back}
-use borrow.Author.Needs.{needs}
 use Rattle.algebra.proofs.tidying.take_cut.Statement.{statement}
 use Rattle.algebra.proofs.tidying.take_cut.Tie as tie
 
@@ -61,9 +61,6 @@ returns c =
     let p = c .before .before .before .before .before .before .args in
     cut-apart (p .base .now) (p .s .now) (p .buf .now) (p .at) (p .kept)
     (rw (whole-part (length (p .base .now)) (p .s .now) (p .at)) at (sym (not-true _ (c .if1 .taken)) ∙ c .before .meets .ensures))
-
-add-from : tie.Need-add-from
-add-from c = search needs
 
 mul-slot : tie.Need-mul-slot
 mul-slot c = search needs
@@ -134,8 +131,8 @@ returns-3 c =
     (rw (whole-part (length (p .base .now)) (held m) (slot (p .base .now) (p .kept))) at (sym (i .if2 .left) ∙ i .before .equal .ensures))
     (sym (c .if3 .taken) ∙ c .before .one-of .ensures)
 
-add-t12 : tie.Need-add-t12
-add-t12 c = search needs
+add-t11 : tie.Need-add-t11
+add-t11 c = search needs
 
 same-length-3 : tie.Need-same-length-3
 same-length-3 c = search needs
@@ -160,7 +157,6 @@ take-cut-spec =
     part-meets-end
     meets-requires
     returns
-    add-from
     mul-slot
     add-slot
     sub-meet-into
@@ -180,6 +176,6 @@ take-cut-spec =
     one-of-requires
     same-length-2
     returns-3
-    add-t12
+    add-t11
     same-length-3
     returns-4)

@@ -1,13 +1,14 @@
+-- `algebra::tidying::take_cuts` meets its contract. Assumes nothing.
 use Prim.Native.Nat.{_+_, _*_, _≤_}
 use native.Mathlib.Omega.{arith}
 use mathlib.Core.Path.{_≡_, _∙_}
 use lib.ListN.{length}
-use Rattle.algebra.proofs.Wholes.{row-room}
-use Rattle.algebra.proofs.Taking.{Goes, row-kept, row-omitted, row-taken, kept-most, row-fits}
 use borrow.Author.Needs.{needs}
+use Rattle.cube.proofs.Wholes.{row-room}
+use Rattle.cube.specs.Whole.{wholesAt}
+use Rattle.algebra.proofs.Taking.{Goes, row-kept, row-omitted, row-taken, kept-most, row-fits}
 use Rattle.algebra.proofs.tidying.take_cuts.Statement.{statement}
 use Rattle.algebra.proofs.tidying.take_cuts.Tie as tie
-use Rattle.cube.specs.Whole.{wholesAt}
 
 abbrev Inv-loop : tie.InvT-loop
 Inv-loop base s at n buf₀ kept some₀ next₀ left₀ buf some next left =

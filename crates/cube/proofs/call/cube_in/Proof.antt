@@ -1,24 +1,18 @@
 -- `cube::cube_in` meets its contract. Assumes nothing.
-use mathlib.Core.Path.{_≡_, sym, ap, _∙_}
+use mathlib.Core.Path.{sym, ap, _∙_}
 use borrow.Author.Needs.{needs}
-use Rattle.answer.specs.declared.Answer.{Answer}
 use Rattle.format.specs.Told.{Told}
-use Rattle.cube.specs.Call.{pairFault}
 use Rattle.cube.proofs.Calling.{in-refused, in-yes, in-no}
 use Rattle.cube.proofs.call.cube_in.Statement.{statement}
 use Rattle.cube.proofs.call.cube_in.Tie as tie
 
-pair-fault-requires : tie.Need-pair-fault-requires
-pair-fault-requires c κs = search needs
-
-accepted : (c : tie.Else1) → pairFault (c .before .before .before .before .before .args .w) (c .before .before .before .before .before .args .a .now) (c .before .before .before .before .before .args .b .now) .number ≡ 0
-accepted c = ap (λ (r : Answer). r .number) (sym (c .before .before .pair-fault .ensures)) ∙ c .if1 .left
+pair-refusal-requires : tie.Need-pair-refusal-requires
+pair-refusal-requires c κs = search needs
 
 returns : tie.Need-returns
 returns c =
     let x = c .before .before .before .before .before .args in
-    c .before .before .pair-fault .ensures
-    ∙ ap (λ (t : Told). t .answer) (in-refused (x .w) (x .a .now) (x .b .now) (λ e. c .if1 .taken (ap (λ (r : Answer). r .number) (c .before .before .pair-fault .ensures) ∙ e)))
+    ap (λ (t : Told). t .answer) (in-refused (x .w) (x .a .now) (x .b .now) _ (c .before .before .pair-refusal .ensures) (c .if1 .taken))
 
 lies-in-requires : tie.Need-lies-in-requires
 lies-in-requires c κs = search needs
@@ -30,7 +24,7 @@ returns-2 : tie.Need-returns-2
 returns-2 c =
     let s = c .before .before .before in
     let x = s .before .before .before .before .before .args in
-    c .said .ensures ∙ ap (λ (t : Told). t .answer) (in-yes (x .w) (x .a .now) (x .b .now) (accepted s) (sym (c .before .before .lies-in .ensures) ∙ c .before .if2 .taken))
+    c .said .ensures ∙ ap (λ (t : Told). t .answer) (in-yes (x .w) (x .a .now) (x .b .now) _ (s .before .before .pair-refusal .ensures) (s .if1 .left) (sym (c .before .before .lies-in .ensures) ∙ c .before .if2 .taken))
 
 said-requires-2 : tie.Need-said-requires-2
 said-requires-2 c κs = search needs
@@ -39,13 +33,13 @@ returns-3 : tie.Need-returns-3
 returns-3 c =
     let s = c .before .before .before in
     let x = s .before .before .before .before .before .args in
-    c .said2 .ensures ∙ ap (λ (t : Told). t .answer) (in-no (x .w) (x .a .now) (x .b .now) (accepted s) (sym (c .before .before .lies-in .ensures) ∙ c .before .if2 .left))
+    c .said2 .ensures ∙ ap (λ (t : Told). t .answer) (in-no (x .w) (x .a .now) (x .b .now) _ (s .before .before .pair-refusal .ensures) (s .if1 .left) (sym (c .before .before .lies-in .ensures) ∙ c .before .if2 .left))
 
 pub cube-in-spec : {M : Type 1} → statement M
 cube-in-spec =
     tie.close
     (tie.spec
-    pair-fault-requires
+    pair-refusal-requires
     returns
     lies-in-requires
     said-requires

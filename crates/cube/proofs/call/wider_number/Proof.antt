@@ -1,24 +1,18 @@
 -- `cube::wider_number` meets its contract. Assumes nothing.
-use mathlib.Core.Path.{_≡_, sym, ap, _∙_}
+use mathlib.Core.Path.{sym, ap, _∙_}
 use borrow.Author.Needs.{needs}
-use Rattle.answer.specs.declared.Answer.{Answer}
 use Rattle.format.specs.Told.{Told}
-use Rattle.cube.specs.Call.{pairFault}
 use Rattle.cube.proofs.Calling.{number-refused, number-first, number-second, number-neither}
 use Rattle.cube.proofs.call.wider_number.Statement.{statement}
 use Rattle.cube.proofs.call.wider_number.Tie as tie
 
-pair-fault-requires : tie.Need-pair-fault-requires
-pair-fault-requires c κs = search needs
-
-accepted : (c : tie.Else1) → pairFault (c .before .before .before .before .before .args .w) (c .before .before .before .before .before .args .a .now) (c .before .before .before .before .before .args .b .now) .number ≡ 0
-accepted c = ap (λ (r : Answer). r .number) (sym (c .before .before .pair-fault .ensures)) ∙ c .if1 .left
+pair-refusal-requires : tie.Need-pair-refusal-requires
+pair-refusal-requires c κs = search needs
 
 returns : tie.Need-returns
 returns c =
     let x = c .before .before .before .before .before .args in
-    c .before .before .pair-fault .ensures
-    ∙ ap (λ (t : Told). t .answer) (number-refused (x .w) (x .a .now) (x .b .now) (λ e. c .if1 .taken (ap (λ (r : Answer). r .number) (c .before .before .pair-fault .ensures) ∙ e)))
+    ap (λ (t : Told). t .answer) (number-refused (x .w) (x .a .now) (x .b .now) _ (c .before .before .pair-refusal .ensures) (c .if1 .taken))
 
 lies-in-requires : tie.Need-lies-in-requires
 lies-in-requires c κs = search needs
@@ -30,7 +24,7 @@ returns-2 : tie.Need-returns-2
 returns-2 c =
     let s = c .before .before .before in
     let x = s .before .before .before .before .before .args in
-    c .said .ensures ∙ ap (λ (t : Told). t .answer) (number-first (x .w) (x .a .now) (x .b .now) (accepted s) (sym (c .before .before .lies-in .ensures) ∙ c .before .if2 .taken))
+    c .said .ensures ∙ ap (λ (t : Told). t .answer) (number-first (x .w) (x .a .now) (x .b .now) _ (s .before .before .pair-refusal .ensures) (s .if1 .left) (sym (c .before .before .lies-in .ensures) ∙ c .before .if2 .taken))
 
 lies-in-requires-2 : tie.Need-lies-in-requires-2
 lies-in-requires-2 c κs = search needs
@@ -42,7 +36,7 @@ returns-3 : tie.Need-returns-3
 returns-3 c =
     let s = c .before .before .before .before .before in
     let x = s .before .before .before .before .before .args in
-    c .said2 .ensures ∙ ap (λ (t : Told). t .answer) (number-second (x .w) (x .a .now) (x .b .now) (accepted s) (sym (c .before .before .lies-in2 .ensures) ∙ c .before .if3 .taken))
+    c .said2 .ensures ∙ ap (λ (t : Told). t .answer) (number-second (x .w) (x .a .now) (x .b .now) _ (s .before .before .pair-refusal .ensures) (s .if1 .left) (sym (c .before .before .lies-in2 .ensures) ∙ c .before .if3 .taken))
 
 said-requires-3 : tie.Need-said-requires-3
 said-requires-3 c κs = search needs
@@ -54,13 +48,13 @@ returns-4 c =
     let x = s .before .before .before .before .before .args in
     c .said3 .ensures
     ∙ ap (λ (t : Told). t .answer)
-    (number-neither (x .w) (x .a .now) (x .b .now) (accepted s) (sym (l .before .lies-in .ensures) ∙ l .if2 .left) (sym (c .before .before .lies-in2 .ensures) ∙ c .before .if3 .left))
+    (number-neither (x .w) (x .a .now) (x .b .now) _ (s .before .before .pair-refusal .ensures) (s .if1 .left) (sym (l .before .lies-in .ensures) ∙ l .if2 .left) (sym (c .before .before .lies-in2 .ensures) ∙ c .before .if3 .left))
 
 pub wider-number-spec : {M : Type 1} → statement M
 wider-number-spec =
     tie.close
     (tie.spec
-    pair-fault-requires
+    pair-refusal-requires
     returns
     lies-in-requires
     said-requires

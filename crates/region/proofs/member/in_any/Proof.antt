@@ -1,11 +1,12 @@
-use borrow.Author.Needs.{needs}
-use native.Mathlib.Omega.{arith}
+-- `region::member::in_any` meets its contract. Assumes nothing.
 use Prim.Native.Nat.{_+_, _-_, _*_, _≤_}
+use native.Mathlib.Omega.{arith}
 use mathlib.Core.Path.{_≡_, refl, _∙_}
 use lib.ListN.{length}
-use Rattle.region.specs.Asked.{anyIn}
+use borrow.Author.Needs.{needs}
 use Rattle.region.proofs.Cubing.{room}
-use Rattle.region.proofs.Asking.{any-none, any-here, any-next}
+use Rattle.region.proofs.Held.{any-none, any-here, any-next}
+use Rattle.region.specs.Asked.{anyIn}
 use Rattle.region.proofs.member.in_any.Statement.{statement}
 use Rattle.region.proofs.member.in_any.Tie as tie
 

@@ -1,29 +1,32 @@
-use borrow.Author.Needs.{needs}
-use Prim.Native.Nat.{ℕ, _-_}
-use mathlib.Core.List.{List}
-use mathlib.Core.Path.{_≡_, refl, sym, ap, _∙_}
+-- `region::offset::seek` meets its contract. Assumes nothing.
+use mathlib.Core.Path.{_≡_, refl, sym, _∙_}
 use lib.ListN.{length, getD}
+use borrow.Author.Needs.{needs}
+use Rattle.format.specs.Records.{firstAt}
+use Rattle.region.proofs.Onward.{seek-end, seek-here, seek-turn}
 use Rattle.region.specs.Ahead.{ahead}
-use Rattle.region.proofs.Onward.{ahead-step, seek-end, seek-here, seek-turn}
 use Rattle.region.proofs.offset.seek.Statement.{statement}
 use Rattle.region.proofs.offset.seek.Tie as tie
 
 abbrev Inv-loop : tie.InvT-loop
-Inv-loop s d at₀ left₀ at left = getD (ahead s at) left (length s) ≡ getD (ahead s 6) d (length s)
+Inv-loop s d at₀ left₀ at left = getD (ahead s at) left (length s) ≡ getD (ahead s (firstAt s)) d (length s)
 
 abbrev μ-loop : tie.MeasureT-loop
 μ-loop s d at₀ left₀ at left = left
 
+first-at-requires : tie.Need-first-at-requires Inv-loop μ-loop
+first-at-requires c κs = search needs
+
 loop-holds : tie.Need-loop-holds Inv-loop μ-loop
-loop-holds c = refl
+loop-holds c = rw (c .first-at .ensures) refl
 
 returns : tie.Need-returns Inv-loop μ-loop
 returns c =
-    let a = c .before .before in
-    sym (seek-here (a .before .before .args .s .now) (a .loop .at) (a .loop .left) _ (c .before .loop-test .taken) (c .if1 .taken)) ∙ a .loop .inv
+    let x = c .before .before .before .before .before .args in
+    sym (seek-here (x .s .now) (c .before .before .loop .at) (c .before .before .loop .left) _ (c .before .loop-test .taken) (c .if1 .taken)) ∙ c .before .before .loop .inv
 
-next-at-requires : tie.Need-next-at-requires Inv-loop μ-loop
-next-at-requires c κs = search needs
+front-at-requires : tie.Need-front-at-requires Inv-loop μ-loop
+front-at-requires c κs = search needs
 
 sub-left : tie.Need-sub-left Inv-loop μ-loop
 sub-left c = search needs
@@ -33,15 +36,14 @@ loop-less c = search needs
 
 loop-again : tie.Need-loop-again Inv-loop μ-loop
 loop-again c =
-    let a = c .before .before .before in
-    let s = a .before .before .args .s .now in
-    ap (λ (os : List ℕ). getD os (a .loop .left - 1) (length s)) (ahead-step s (a .loop .at) (c .next-at .result) (c .next-at .ensures))
-    ∙ sym (seek-turn s (a .loop .at) (a .loop .left) (length s) (c .before .before .loop-test .taken) (c .before .if1 .left)) ∙ a .loop .inv
+    let x = c .before .before .before .before .before .before .args in
+    let s = x .s .now in
+    rw (c .front-at .ensures .0 .next) (sym (seek-turn s (c .before .before .before .loop .at) (c .before .before .before .loop .left) (length s) (c .before .before .loop-test .taken) (c .before .if1 .left)) ∙ c .before .before .before .loop .inv)
 
 returns-2 : tie.Need-returns-2 Inv-loop μ-loop
 returns-2 c =
-    let a = c .before in
-    sym (seek-end (a .before .before .args .s .now) (a .loop .at) (a .loop .left) _ (c .loop-test .left)) ∙ a .loop .inv
+    let x = c .before .before .before .before .args in
+    sym (seek-end (x .s .now) (c .before .loop .at) (c .before .loop .left) _ (c .loop-test .left)) ∙ c .before .loop .inv
 
 pub seek-spec : {M : Type 1} → statement M
 seek-spec =
@@ -49,9 +51,10 @@ seek-spec =
     (tie.spec
     Inv-loop
     μ-loop
+    first-at-requires
     loop-holds
     returns
-    next-at-requires
+    front-at-requires
     sub-left
     loop-less
     loop-again

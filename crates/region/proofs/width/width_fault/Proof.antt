@@ -1,16 +1,19 @@
-use borrow.Author.Needs.{needs}
+-- `region::width::width_fault` meets its contract. Assumes nothing.
 use native.Mathlib.Omega.{arith}
-use Rattle.format.specs.Rows.{last}
+use borrow.Author.Needs.{needs}
+use Rattle.format.specs.Records.{frameRows, widthRows, widthFault}
 use Rattle.format.specs.Limits.{widthKind}
-use Rattle.format.specs.Records.{recordRows, widthRows, widthFault}
-use Rattle.format.proofs.Reached.{rest, reached, gives, Clean}
-use Rattle.region.proofs.Tables.{frame-stop, frame-pass}
+use Rattle.format.proofs.Lending.{frame-refused, frame-clean}
+use Rattle.format.proofs.Reached.{Past, rest, reached}
 use Rattle.region.proofs.width.width_fault.Statement.{statement}
 use Rattle.region.proofs.width.width_fault.Tie as tie
 
 -- where the length and the kind pass, each test of them fails
-passed : (c : tie.Else1) → Clean 0 (recordRows widthKind (c .before .before .before .args .s .now) 0 (last 0))
-passed c = frame-pass widthKind (c .before .before .before .args .s .now) 0 _ (c .before .frame-fault .ensures) (c .if1 .left)
+passed : (c : tie.Else1) → Past 0 (frameRows widthKind (c .before .before .before .before .args .s .now) 0)
+passed c = frame-clean widthKind (c .before .before .before .before .args .s .now) 0 _ (c .before .frame-fault .ensures) (c .if1 .left)
+
+front-at-requires : tie.Need-front-at-requires
+front-at-requires c κs = search needs
 
 frame-fault-requires : tie.Need-frame-fault-requires
 frame-fault-requires c κs = search needs
@@ -18,11 +21,8 @@ frame-fault-requires c κs = search needs
 returns : tie.Need-returns
 unfolding widthFault
 returns c =
-    let s = c .before .before .before .args .s .now in
-    gives (widthRows s) _ (frame-stop widthKind s 0 _ (c .before .frame-fault .ensures) (rest 4 (widthRows s)) (c .if1 .taken))
-
-length-at-requires : tie.Need-length-at-requires
-length-at-requires c κs = search needs
+    let s = c .before .before .before .before .args .s .now in
+    frame-refused widthKind s 0 _ (c .before .frame-fault .ensures) (rest 4 (widthRows s)) (c .if1 .taken)
 
 returns-2 : tie.Need-returns-2
 unfolding widthFault
@@ -47,9 +47,9 @@ pub width-fault-spec : {M : Type 1} → statement M
 width-fault-spec =
     tie.close
     (tie.spec
+    front-at-requires
     frame-fault-requires
     returns
-    length-at-requires
     returns-2
     width-of-requires
     returns-3

@@ -1,37 +1,17 @@
 -- `visits::codes::give` meets its contract. Assumes nothing.
-use Rattle.visits.proofs.Places.{weight-pow, weight-fits, free-weight, piece-given}
+use Rattle.visits.proofs.Step.{piece-given}
 use borrow.Author.Needs.{needs}
 use Rattle.visits.proofs.codes.give.Statement.{statement}
 use Rattle.visits.proofs.codes.give.Tie as tie
 
-array-read-p : tie.Need-array-read-p
-array-read-p c = search needs
+slice-aggregate-set-code : tie.Need-slice-aggregate-set-code
+slice-aggregate-set-code c = search needs
 
-sub-p : tie.Need-sub-p
-sub-p c = search needs
-
-mul-p : tie.Need-mul-p
-mul-p c = search needs
-
-cast-p : tie.Need-cast-p
-cast-p c = search needs
-
-shr-p : tie.Need-shr-p
-shr-p c = search needs
-
-mul-p-2 : tie.Need-mul-p-2
-mul-p-2 c = rw (weight-pow (c .args .i)) (record { fits = weight-fits (c .args .i) (c .args .v) })
-
-sub-p-2 : tie.Need-sub-p-2
-sub-p-2 c = rw (weight-pow (c .args .i)) (free-weight (c .args .piece) (c .args .i) (c .args .v) (search needs) (c .pre .2))
-
-array-write-p : tie.Need-array-write-p
-array-write-p c = search needs
+set-code-requires : tie.Need-set-code-requires
+set-code-requires c κs = search needs
 
 returns : tie.Need-returns
-returns c = rw (weight-pow (c .args .i)) (piece-given (c .args .piece) (c .args .i) (c .args .v) (search needs) (c .pre .0) (c .pre .1) (c .pre .2))
+returns c = let x = c .before .before .before .args in piece-given (x .piece) _ (x .i) (x .v) (search needs) (c .before .set-code .ensures)
 
 pub give-spec : {M : Type 1} → statement M
-give-spec =
-    tie.close
-    (tie.spec array-read-p sub-p mul-p cast-p shr-p mul-p-2 sub-p-2 array-write-p returns)
+give-spec = tie.close (tie.spec slice-aggregate-set-code set-code-requires returns)

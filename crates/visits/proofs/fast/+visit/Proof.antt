@@ -16,13 +16,13 @@ use Rattle.model.specs.Walk.{visit as walked}
 use Rattle.model.proofs.Walking.{walk-positive}
 use Rattle.format.specs.Bytes.{codeOf}
 use Rattle.visits.specs.Opening.{firstOpen}
-use Rattle.visits.specs.Words.{wide, row, cutsBelow}
+use Rattle.visits.specs.Words.{cubeOfWords, rowCube, cutsBelow}
 use Rattle.visits.specs.Alive.{Alive, Against}
 use Rattle.visits.specs.Memory.{Finds, Memory}
-use Rattle.visits.specs.Telling.{tells}
+use Rattle.visits.specs.Replies.{tells}
 use Rattle.visits.proofs.Settle.{settle-none, settle-keeps}
 use Rattle.visits.proofs.Turn.{turn-end, turn-covered, turn-stop, is-covered, not-covered}
-use Rattle.visits.proofs.Wide.{wide-length}
+use Rattle.visits.proofs.WordCubes.{words-length}
 use Rattle.visits.proofs.Meeting.{alive-fewer, alive-meets, alive-top, alive-passed, alive-none, against-fewer}
 use Rattle.visits.proofs.Paying.{covered-finds}
 use Rattle.visits.proofs.Narrowing.{Opened, opened, took-cube, took-alive, later-first, begun, survives-stops, tells-covered}
@@ -61,10 +61,11 @@ Inv n live cuts against slots₀ have₀ near₀ met₀ cut i₀ slots have near
     × (length against ≡ 640)
     × (have .left + have .spent < 2 ^ 32)
     × (length near ≡ 10)
-    × (i ≡ firstOpen (wide near) (wide cut))
-    × (wide cut ≡ row cuts n)
-    × (leftFrom (walked (cutsBelow cuts n)) (wide cut) have₀ (wide near₀) ≡ leftFrom (walked (cutsBelow cuts n)) (wide cut) have (wide near))
-    × Alive cuts n (wide near) met
+    × (i ≡ firstOpen (cubeOfWords near) (cubeOfWords cut))
+    × (cubeOfWords cut ≡ rowCube cuts n)
+    × (leftFrom (walked (cutsBelow cuts n)) (cubeOfWords cut) have₀ (cubeOfWords near₀)
+    ≡ leftFrom (walked (cutsBelow cuts n)) (cubeOfWords cut) have (cubeOfWords near))
+    × Alive cuts n (cubeOfWords near) met
     × Against cuts n against
     × Memory cuts slots
     × (length slots ≡ length slots₀)
@@ -91,7 +92,7 @@ at-child : (t : ℕ) (c : visit-lts.After-narrow (given t) (visit-at t) visit.Po
     let gv = c .before in
     let at = gv .before .before .before .before in
     let g = at .before .before .before .before .before .before .before .before .before .args in
-    Alive (g .cuts .now) (g .n) (wide (set (at .loop .near) (at .loop .i / 32) (gv .given .result))) (c .narrow .result)
+    Alive (g .cuts .now) (g .n) (cubeOfWords (set (at .loop .near) (at .loop .i / 32) (gv .given .result))) (c .narrow .result)
 at-child t c =
     let gv = c .before in
     let o = at-open t (gv .before) in
@@ -103,9 +104,9 @@ at-child t c =
 -- the whole is what is left from here
 whole : (t : ℕ) (c : visit-lts.At-loop (given t) (visit-at t) visit.Post Inv μ) →
     let g = c .before .before .before .before .before .before .before .before .before .args in
-    settle (g .a) (walked (cutsBelow (g .cuts .now) (suc (g .n))) (wide (g .piece)))
-    ≡ leftFrom (walked (cutsBelow (g .cuts .now) (g .n))) (wide (getD (g .cuts .now) (g .n) [])) (c .loop .have) (wide (c .loop .near))
-unfolding row
+    settle (g .a) (walked (cutsBelow (g .cuts .now) (suc (g .n))) (cubeOfWords (g .piece)))
+    ≡ leftFrom (walked (cutsBelow (g .cuts .now) (g .n))) (cubeOfWords (getD (g .cuts .now) (g .n) [])) (c .loop .have) (cubeOfWords (c .loop .near))
+unfolding rowCube
 whole t c =
     let sp = c .before .before .before .before .before in
     begun _ _ _ _ _ (pos-of-ne-zero (sp .before .if1 .left)) (sp .spend .ensures) (sp .before .before .before .before .pre .1 .3) ∙ c .loop .inv .6
@@ -115,7 +116,7 @@ at-reply : (t : ℕ) (c : visit-lts.Joined3 (given t) (visit-at t) visit.Post In
     let gv = c .before .before .before .before .before .before .before in
     let at = gv .before .before .before .before in
     let g = at .before .before .before .before .before .before .before .before .before .args in
-    (tells (c .if3 .v) ≡ settle (at .loop .have) (walked (cutsBelow (g .cuts .now) (g .n)) (wide (set (at .loop .near) (at .loop .i / 32) (gv .given .result)))))
+    (tells (c .if3 .v) ≡ settle (at .loop .have) (walked (cutsBelow (g .cuts .now) (g .n)) (cubeOfWords (set (at .loop .near) (at .loop .i / 32) (gv .given .result)))))
     × Memory (g .cuts .now) (c .if3 .slots)
     × (length (c .if3 .slots) ≡ length (g .slots .now))
 at-reply t c =
@@ -137,18 +138,18 @@ at-covered : (t : ℕ) (c : visit-lts.At-match-keys1 (given t) (visit-at t) visi
     let at = gv .before .before .before .before in
     let g = at .before .before .before .before .before .before .before .before .before .args in
     (at .loop .have .spent ≤ j .if3 .v .allowance .spent)
-    × Finds (j .if3 .v .allowance .spent - at .loop .have .spent) (walked (cutsBelow (g .cuts .now) (g .n)) (wide (set (at .loop .near) (at .loop .i / 32) (gv .given .result))))
+    × Finds (j .if3 .v .allowance .spent - at .loop .have .spent) (walked (cutsBelow (g .cuts .now) (g .n)) (cubeOfWords (set (at .loop .near) (at .loop .i / 32) (gv .given .result))))
 at-covered t c = covered-finds _ _ _ (sym (at-reply t (c .before) .0) ∙ tells-covered (c .before .if3 .v) (is-covered _ (c .match .keys1)))
 
 -- the piece that agrees with the cut there
 at-agreed : (t : ℕ) (c : visit-lts.After-given2 (given t) (visit-at t) visit.Post Inv μ) →
     let gv = c .before .before .before .before .before .before .before .before .before .before .before .before .before .before .before .before .before in
     let at = gv .before .before .before .before in
-    wide (set (set (at .loop .near) (at .loop .i / 32) (gv .given .result)) (at .loop .i / 32) (c .given2 .result)) ≡ set (wide (at .loop .near)) (at .loop .i) (codeOf (gv .before .number-in .result))
+    cubeOfWords (set (set (at .loop .near) (at .loop .i / 32) (gv .given .result)) (at .loop .i / 32) (c .given2 .result)) ≡ set (cubeOfWords (at .loop .near)) (at .loop .i) (codeOf (gv .before .number-in .result))
 at-agreed t c =
     let gv = c .before .before .before .before .before .before .before .before .before .before .before .before .before .before .before .before .before in
     let at = gv .before .before .before .before in
-    ap wide (set-set (at .loop .near) (at .loop .i / 32) (gv .given .result) (c .given2 .result))
+    ap cubeOfWords (set-set (at .loop .near) (at .loop .i / 32) (gv .given .result) (c .given2 .result))
     ∙ took-cube (at .loop .near) (at .loop .i) _ (c .given2 .result) (at .loop .inv .3) (gv .before .before .before .loop-test .taken) (c .given2 .ensures)
 
 -- the next position that opens is a later one
@@ -157,7 +158,7 @@ at-later : (t : ℕ) (c : visit-lts.After-cut4 (given t) (visit-at t) visit.Post
     let gv = g2 .before .before .before .before .before .before .before .before .before .before .before .before .before .before .before .before .before in
     let at = gv .before .before .before .before in
     let g = at .before .before .before .before .before .before .before .before .before .args in
-    at .loop .i < firstOpen (wide (set (set (at .loop .near) (at .loop .i / 32) (gv .given .result)) (at .loop .i / 32) (g2 .given2 .result))) (wide (getD (g .cuts .now) (g .n) []))
+    at .loop .i < firstOpen (cubeOfWords (set (set (at .loop .near) (at .loop .i / 32) (gv .given .result)) (at .loop .i / 32) (g2 .given2 .result))) (cubeOfWords (getD (g .cuts .now) (g .n) []))
 at-later t c =
     let g2 = c .before .before .before in
     let gv = g2 .before .before .before .before .before .before .before .before .before .before .before .before .before .before .before .before .before in
@@ -180,7 +181,7 @@ visit-next-open-requires : (t : ℕ) → visit-lts.Need-next-open-requires (give
 visit-next-open-requires t c κs = search needs
 
 visit-loop-holds : (t : ℕ) → visit-lts.Need-loop-holds (given t) (visit-at t) visit.Post Inv μ
-unfolding row
+unfolding rowCube
 visit-loop-holds t c =
     let sp = c .before .before .before .before in
     let st = sp .before .before .before .before in
@@ -231,7 +232,7 @@ visit-returns-2 t c =
     let at = gv .before .before .before .before in
     let o = at-open t (gv .before) in
     let h = gv .before .before .before .loop-test .taken in (
-      sym (whole t at ∙ turn-stop _ _ _ _ (wide-length _ ∙ sym (wide-length _)) _ (at .loop .inv .4) (omega (arith, wide-length (at .loop .near))) _ _ (o .fixed) (o .turned) _
+      sym (whole t at ∙ turn-stop _ _ _ _ (words-length _ ∙ sym (words-length _)) _ (at .loop .inv .4) (omega (arith, words-length (at .loop .near))) _ _ (o .fixed) (o .turned) _
           (took-cube (at .loop .near) (at .loop .i) _ (gv .given .result) (at .loop .inv .3) h (gv .given .ensures)) _
           (c .last .ensures ∙ ap (settle (at .loop .have)) (sym (alive-none _ _ _ _ (at-child t nr) (c .before .if2 .taken))))
           (λ q. survives-stops _ _ (sym (ap (λ (x : Said). x .verdict) (c .last .ensures)) ∙ q))),
@@ -263,7 +264,7 @@ visit-visit-requires t c κs =
     let k = tp .top .ensures in
     let l = alive-top _ _ _ (a .0) (k .2) in
     let cuts = st .args .cuts .now in
-    let child = wide (set (at .loop .near) (at .loop .i / 32) (nr .before .given .result)) in (
+    let child = cubeOfWords (set (at .loop .near) (at .loop .i / 32) (nr .before .given .result)) in (
       omega (arith, l, st .pre .0),
       (
         omega (arith, l, at .loop .inv .0),
@@ -289,7 +290,7 @@ visit-returns-3 t c =
     let at = gv .before .before .before .before in
     let o = at-open t (gv .before) in
     let h = gv .before .before .before .loop-test .taken in (
-      sym (whole t at ∙ turn-stop _ _ _ _ (wide-length _ ∙ sym (wide-length _)) _ (at .loop .inv .4) (omega (arith, wide-length (at .loop .near))) _ _ (o .fixed) (o .turned) _
+      sym (whole t at ∙ turn-stop _ _ _ _ (words-length _ ∙ sym (words-length _)) _ (at .loop .inv .4) (omega (arith, words-length (at .loop .near))) _ _ (o .fixed) (o .turned) _
           (took-cube (at .loop .near) (at .loop .i) _ (gv .given .result) (at .loop .inv .3) h (gv .given .ensures)) _ (at-reply t j .0) (not-covered _ (c .match .keys2))),
       at-reply t j .1,
     )
@@ -356,7 +357,7 @@ visit-loop-again t c =
       length-set (set (at .loop .near) (at .loop .i / 32) (gv .given .result)) (at .loop .i / 32) (g2 .given2 .result) ∙ length-set (at .loop .near) (at .loop .i / 32) (gv .given .result) ∙ v .3,
       c .next-open2 .ensures,
       v .5,
-      v .6 ∙ turn-covered _ _ _ _ (wide-length _ ∙ sym (wide-length _)) _ (v .4) (omega (arith, wide-length (at .loop .near))) _ _ (o .fixed) (o .turned) _
+      v .6 ∙ turn-covered _ _ _ _ (words-length _ ∙ sym (words-length _)) _ (v .4) (omega (arith, words-length (at .loop .near))) _ _ (o .fixed) (o .turned) _
           (took-cube (at .loop .near) (at .loop .i) _ (gv .given .result) (v .3) h (gv .given .ensures)) _ (r .0) (is-covered _ (k1 .match .keys1)) ∙ ap (leftFrom _ _ _) (sym (at-agreed t g2)),
       rw (set-set (at .loop .near) (at .loop .i / 32) (gv .given .result) (g2 .given2 .result))
           (took-alive (at .loop .near) (at .loop .i) _ (g2 .given2 .result) (v .3) h (g2 .given2 .ensures) _ _ (g .against .now) _ _ (o .unfixed) (o .least) (o .most) (v .7) (v .8) (n2 .narrow2 .ensures)),
@@ -371,7 +372,7 @@ visit-same-length-3 t c = search needs
 visit-returns-4 : (t : ℕ) → visit-lts.Need-returns-4 (given t) (visit-at t) visit.Post Inv μ
 visit-returns-4 t c =
     let at = c .before in
-    (sym (whole t at ∙ turn-end _ _ _ _ (wide-length _ ∙ sym (wide-length _)) (omega (arith, wide-length (at .loop .near), c .loop-test .left, at .loop .inv .4))), at .loop .inv .9)
+    (sym (whole t at ∙ turn-end _ _ _ _ (words-length _ ∙ sym (words-length _)) (omega (arith, words-length (at .loop .near), c .loop-test .left, at .loop .inv .4))), at .loop .inv .9)
 
 pub +visit-spec : {M : Type 1} → statement M
 +visit-spec = close μ-visit λ t. visit-lts.spec (given t)

@@ -2,9 +2,9 @@
 use Rattle.visits.proofs.Digits.{below-or}
 use lib.ListN.{getD-replicate}
 use mathlib.Core.Logic.{⊎-elim}
-use Rattle.visits.proofs.Carrying.{holds-free, padded-long, padded-codes, wide-holds, word-more}
+use Rattle.visits.proofs.Carrying.{holds-free, padded-long, padded-codes, words-hold, word-more}
 use lib.Seq.{getD-set-other}
-use Rattle.visits.specs.Loading.{padded, Holds}
+use Rattle.visits.specs.Loading.{padded, HoldsBytes}
 use lib.ListN.{length, getD, drop, length-set, length-drop}
 use mathlib.Core.Path.{_≡_, refl, _∙_}
 use native.Mathlib.Omega.{arith}
@@ -16,7 +16,7 @@ use Rattle.cube.specs.Whole.{wholeAt}
 
 abbrev Inv-loop : tie.InvT-loop
 Inv-loop s at q ws₀ w₀ ws w =
-    (q ≤ 80) × (8 * w < q + 8) × (length ws ≡ 10) × ((v : ℕ) → v < w → Holds (padded q (drop at s)) 8 (8 * v) (getD ws v 0)) × ((v : ℕ) → w ≤ v → v < 10 → getD ws v 0 ≡ 18446744073709551615)
+    (q ≤ 80) × (8 * w < q + 8) × (length ws ≡ 10) × ((v : ℕ) → v < w → HoldsBytes (padded q (drop at s)) 8 (8 * v) (getD ws v 0)) × ((v : ℕ) → w ≤ v → v < 10 → getD ws v 0 ≡ 18446744073709551615)
 
 abbrev μ-loop : tie.MeasureT-loop
 μ-loop s at q ws₀ w₀ ws w = 10 - w
@@ -66,7 +66,7 @@ returns c =
     let bs = drop (g .at) (g .s .now) in
     let v = at .loop .inv in
     let l : g .q ≤ length bs = rw length-drop (omega (arith, st .pre .1)) in
-    wide-holds (at .loop .ws) (padded (g .q) bs) (padded-long (g .q) bs l (st .pre .0))
+    words-hold (at .loop .ws) (padded (g .q) bs) (padded-long (g .q) bs l (st .pre .0))
     (λ w h.
     ⊎-elim (λ (k : w < at .loop .w). v .3 w k)
     (λ (k : at .loop .w ≤ w). rw (v .4 w k h) (holds-free (g .q) bs (8 * w) l (omega (arith, c .loop-test .left)) (omega arith))) (below-or w (at .loop .w)))

@@ -1,7 +1,7 @@
 -- `visits::load::word` meets its contract. Assumes nothing.
 use lib.Pow.{pow-mono}
 use Rattle.visits.proofs.Carrying.{holds-none, holds-more}
-use Rattle.visits.specs.Loading.{padded, Holds}
+use Rattle.visits.specs.Loading.{padded, HoldsBytes}
 use lib.ListN.{drop}
 use mathlib.Core.Path.{_≡_, subst}
 use native.Mathlib.Omega.{arith}
@@ -11,7 +11,7 @@ use Rattle.visits.proofs.load.word.Statement.{statement}
 use Rattle.visits.proofs.load.word.Tie as tie
 
 abbrev Inv-loop : tie.InvT-loop
-Inv-loop s at q b x₀ j₀ x j = (j ≤ 8) × (b ≤ 72) × Holds (padded q (drop at s)) j b x
+Inv-loop s at q b x₀ j₀ x j = (j ≤ 8) × (b ≤ 72) × HoldsBytes (padded q (drop at s)) j b x
 
 abbrev μ-loop : tie.MeasureT-loop
 μ-loop s at q b x₀ j₀ x j = 8 - j
@@ -54,7 +54,7 @@ returns c =
     let at = c .before in
     let g = at .before .before .args in
     let e : at .loop .j ≡ 8 = omega (arith, c .loop-test .left, at .loop .inv .0) in
-    subst (λ n. Holds (padded (g .q) (drop (g .at) (g .s .now))) n (g .b) (at .loop .x)) e (at .loop .inv .2)
+    subst (λ n. HoldsBytes (padded (g .q) (drop (g .at) (g .s .now))) n (g .b) (at .loop .x)) e (at .loop .inv .2)
 
 pub word-spec : {M : Type 1} → statement M
 word-spec =

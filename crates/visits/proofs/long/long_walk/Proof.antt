@@ -1,10 +1,10 @@
 -- `visits::long::long_walk` meets its contract. Assumes nothing.
-use Rattle.visits.proofs.Whole.{loaded-alive, first-met, first-passed, whole, told-view, last-fit, zeros}
+use Rattle.visits.proofs.Whole.{loaded-alive, first-met, first-passed, whole, in-bytes-says, last-fit, zeros}
 use Rattle.visits.proofs.Slots.{memory-fresh}
 use Rattle.visits.proofs.Step.{front-length, front-cube, cube-length}
-use Rattle.visits.specs.Telling.{First}
+use Rattle.visits.specs.Alive.{First}
 use Rattle.visits.specs.Loading.{Met}
-use Rattle.visits.specs.Words.{wide}
+use Rattle.visits.specs.Words.{cubeOfWords}
 use Rattle.visits.specs.Settle.{settle}
 use Rattle.model.proofs.Walking.{survivor-length}
 use Rattle.model.specs.Padding.{pad}
@@ -34,7 +34,7 @@ fit c =
 -- the base in words
 base : (c : tie.After-load) →
     let st = c .before .before .before .before .before .before .before .before .before .before .before .before .before .before .before .before .before in
-    wide (c .load .result) ≡ pad (320 - 4 * st .args .q) (cubeOf (st .args .q) (st .args .t2))
+    cubeOfWords (c .load .result) ≡ pad (320 - 4 * st .args .q) (cubeOf (st .args .q) (st .args .t2))
 unfolding wholeAt
 base c = c .load .ensures
 
@@ -149,8 +149,8 @@ begin-requires c κs =
       memory-fresh _ 251,
     )
 
-told-requires : tie.Need-told-requires
-told-requires c κs = search needs
+in-bytes-requires : tie.Need-in-bytes-requires
+in-bytes-requires c κs = search needs
 
 returns : tie.Need-returns
 returns c =
@@ -164,13 +164,13 @@ returns c =
     let g = st .args in
     let p = st .pre in
     let lp = cube-length (g .q) (g .t2) (long st) in
-    told-view (g .q) (320 - 4 * g .q) (g .a) _ (bg .begin .result) (c .told .result)
+    in-bytes-says (g .q) (320 - 4 * g .q) (g .a) _ (bg .begin .result) (c .in-bytes .result)
     (λ w e. survivor-length _ _ w e ∙ lp)
     (bg .begin .ensures
     ∙ ap (settle (g .a))
     (first-passed (g .q) (g .s .now) (g .at) (g .left) _ (lc .load-cuts .ensures) (p .1) (cubeOf (g .q) (g .t2)) _ lp (base ld) _ _ (dg .digits .ensures) (p .2) (first fm)
     ∙ sym (whole (g .q) (g .s .now) (g .at) (g .left) _ (lc .load-cuts .ensures) (p .1) (cubeOf (g .q) (g .t2)) _ lp (base ld))))
-    (c .told .ensures)
+    (c .in-bytes .ensures)
 
 pub long-walk-spec : {M : Type 1} → statement M
 long-walk-spec =
@@ -199,5 +199,5 @@ long-walk-spec =
     slice-aggregate-begin-2
     slice-aggregate-begin-3
     begin-requires
-    told-requires
+    in-bytes-requires
     returns)

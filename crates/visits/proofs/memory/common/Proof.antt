@@ -3,7 +3,7 @@ use Rattle.visits.proofs.Meeting.{alive-top}
 use Rattle.visits.proofs.Slots.{common-turn, common-end}
 use Rattle.visits.specs.Memory.{Lies}
 use Rattle.visits.specs.Alive.{digit}
-use Rattle.visits.specs.Words.{row}
+use Rattle.visits.specs.Words.{rowCube}
 use lib.ListN.{length}
 use mathlib.Core.Logic.{_⊎_, inl}
 use mathlib.Core.Path.{_≡_}
@@ -14,7 +14,7 @@ use Rattle.visits.proofs.memory.common.Statement.{statement}
 use Rattle.visits.proofs.memory.common.Tie as tie
 
 abbrev Inv-loop : tie.InvT-loop
-Inv-loop cuts alive m₀ x₀ m x = (x < 2 ^ 64) × (x < 2 ^ length cuts) × ((j : ℕ) → j < 64 → digit j alive ≡ 1 → (digit j x ≡ 1) ⊎ Lies m (row cuts j))
+Inv-loop cuts alive m₀ x₀ m x = (x < 2 ^ 64) × (x < 2 ^ length cuts) × ((j : ℕ) → j < 64 → digit j alive ≡ 1 → (digit j x ≡ 1) ⊎ Lies m (rowCube cuts j))
 
 abbrev μ-loop : tie.MeasureT-loop
 μ-loop cuts alive m₀ x₀ m x = x

@@ -1,9 +1,9 @@
 -- `visits::table::enter` meets its contract. Assumes nothing.
 use Rattle.visits.proofs.Entering.{fresh, free-words, enter-fits, enter-turn, enter-end, agree-turn}
 use Rattle.visits.proofs.Narrowing.{Opened, opened, took-cube, later-first}
-use Rattle.visits.proofs.Wide.{wide-length}
+use Rattle.visits.proofs.WordCubes.{words-length}
 use Rattle.visits.specs.Loading.{Entered}
-use Rattle.visits.specs.Words.{wide}
+use Rattle.visits.specs.Words.{cubeOfWords}
 use Rattle.visits.specs.Opening.{firstOpen}
 use Rattle.model.specs.Cube.{none, free}
 use lib.ListN.{length, getD, set, length-set}
@@ -18,8 +18,8 @@ use Rattle.visits.proofs.table.enter.Tie as tie
 
 abbrev Inv-loop : tie.InvT-loop
 Inv-loop against₀ cut one near₀ i₀ against near i =
-    (length against ≡ 640) × (length near ≡ 10) × (i ≡ firstOpen (wide near) (wide cut)) × Entered against₀ (wide near) one against
-    × ((j : ℕ) → j < 320 → (getD (wide near) j none ≡ free) ⊎ (getD (wide near) j none ≡ getD (wide cut) j none))
+    (length against ≡ 640) × (length near ≡ 10) × (i ≡ firstOpen (cubeOfWords near) (cubeOfWords cut)) × Entered against₀ (cubeOfWords near) one against
+    × ((j : ℕ) → j < 320 → (getD (cubeOfWords near) j none ≡ free) ⊎ (getD (cubeOfWords near) j none ≡ getD (cubeOfWords cut) j none))
     × (length against₀ ≡ 640) × ((k : ℕ) → k < 640 → getD against₀ k 0 + one < 2 ^ 64)
 
 abbrev μ-loop : tie.MeasureT-loop
@@ -33,7 +33,8 @@ at-open c = let at = c .before .before in opened _ _ _ _ (at .loop .inv .2) (c .
 agreed : (c : tie.After-given Inv-loop μ-loop) →
     let num = c .before .before in
     let at = num .before .before in
-    wide (set (at .loop .near) (at .loop .i / 32) (c .given .result)) ≡ set (wide (at .loop .near)) (at .loop .i) (codeOf (num .number-in .result))
+    cubeOfWords (set (at .loop .near) (at .loop .i / 32) (c .given .result))
+    ≡ set (cubeOfWords (at .loop .near)) (at .loop .i) (codeOf (num .number-in .result))
 agreed c =
     let num = c .before .before in
     let at = num .before .before in
@@ -42,7 +43,8 @@ agreed c =
 later : (c : tie.After-given Inv-loop μ-loop) →
     let num = c .before .before in
     let at = num .before .before in
-    at .loop .i < firstOpen (wide (set (at .loop .near) (at .loop .i / 32) (c .given .result))) (wide (at .before .before .before .before .args .cut .now))
+    at .loop .i
+    < firstOpen (cubeOfWords (set (at .loop .near) (at .loop .i / 32) (c .given .result))) (cubeOfWords (at .before .before .before .before .args .cut .now))
 later c =
     let num = c .before .before in
     let at = num .before .before in
@@ -81,7 +83,7 @@ add-against c =
     let o = at-open (c .before) in
     let h = c .before .before .loop-test .taken in
     let k = 2 * at .loop .i + (2 - c .before .number-in .result) in
-    omega (arith, enter-fits (g .against .now) (wide (at .loop .near)) (g .one) (at .loop .against) (at .loop .inv .3) (at .loop .i) (c .before .number-in .result) h (o .least) (o .most) (o .unfixed), at .loop .inv .6 k (omega (arith, h, o .least, o .most)))
+    omega (arith, enter-fits (g .against .now) (cubeOfWords (at .loop .near)) (g .one) (at .loop .against) (at .loop .inv .3) (at .loop .i) (c .before .number-in .result) h (o .least) (o .most) (o .unfixed), at .loop .inv .6 k (omega (arith, h, o .least, o .most)))
 
 mul-against-2 : tie.Need-mul-against-2 Inv-loop μ-loop
 mul-against-2 c = search needs
@@ -122,8 +124,9 @@ loop-again c =
       length-set (at .loop .against) _ _ ∙ v .0,
       length-set (at .loop .near) (at .loop .i / 32) (gv .given .result) ∙ v .1,
       c .next-open2 .ensures,
-      enter-turn (g .against .now) (wide (at .loop .near)) (g .one) (at .loop .against) (v .3) (at .loop .i) (num .number-in .result) h (o .least) (o .most) (o .unfixed) (wide-length (at .loop .near)) _ (v .0) (agreed gv),
-      agree-turn (wide (at .loop .near)) (wide (g .cut .now)) (at .loop .i) _ _ (omega (arith, wide-length (at .loop .near))) (agreed gv) (o .fixed) (v .4),
+      enter-turn (g .against .now) (cubeOfWords (at .loop .near)) (g .one) (at .loop .against) (v .3) (at .loop .i) (num .number-in .result) h (o .least) (o .most) (o .unfixed) (words-length (at .loop .near)) _ (v .0) (agreed gv),
+      agree-turn (cubeOfWords (at .loop .near)) (cubeOfWords (g .cut .now)) (at .loop .i) _ _
+          (omega (arith, words-length (at .loop .near))) (agreed gv) (o .fixed) (v .4),
       v .5,
       v .6,
     )

@@ -2,7 +2,7 @@
 use Rattle.visits.proofs.Entering.{EnteredAll, entered-none, entered-more}
 use Rattle.visits.proofs.Meeting.{pow-double}
 use Rattle.visits.specs.Alive.{Against}
-use Rattle.visits.specs.Words.{row}
+use Rattle.visits.specs.Words.{rowCube}
 use lib.Pow.{pow-mono}
 use lib.ListN.{length}
 use mathlib.Core.Path.{_≡_, subst}
@@ -45,7 +45,7 @@ loop-less : tie.Need-loop-less Inv-loop μ-loop
 loop-less c = search needs
 
 loop-again : tie.Need-loop-again Inv-loop μ-loop
-unfolding row
+unfolding rowCube
 loop-again c =
     let en = c .before .before in
     let lp = en .before .before .before .before .before in

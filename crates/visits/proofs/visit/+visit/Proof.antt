@@ -1,4 +1,4 @@
--- The proof of the cycle of calls {walk::visit::visit}. The measure is the number of cuts left. The invariant: the whole visit is what is left of it
+-- The proof of the cycle of calls {visits::visit::visit}. The measure is the number of cuts left. The invariant: the whole visit is what is left of it
 -- with the allowance and the piece as they are, and i is the first position that the cut opens. Assumes nothing.
 use borrow.Author.Needs.{needs}
 use Prim.Native.Nat.{ℕ, _+_, _-_, _*_, _^_, _≤_, _<_, zero-le}
@@ -22,7 +22,7 @@ use Rattle.visits.proofs.visit.visit.Reads as visit
 use Rattle.visits.proofs.visit.visit.Kinds as visit-kinds
 use Rattle.visits.proofs.visit.+visit.Lts-visit as visit-lts
 use Rattle.visits.proofs.allowance.Allowance.spend.Reads as spend-reads
-use Rattle.visits.proofs.codes.code_at.Reads as code-at-reads
+use Rattle.cube.proofs.code_at.Reads as code-at-reads
 use Rattle.visits.proofs.codes.give.Reads as give-reads
 use Rattle.visits.proofs.codes.other.Reads as other-reads
 use Rattle.visits.proofs.visit.opened.Reads as opened-reads
@@ -189,7 +189,7 @@ visit-other-requires : (t : ℕ) → visit-lts.Need-other-requires (given t) (vi
 visit-other-requires t c κs = opening t c .small
 
 visit-give-requires : (t : ℕ) → visit-lts.Need-give-requires (given t) (visit-at t) visit.Post Inv μ
-visit-give-requires t c κs = (omega (arith, c .before .before .before .loop .inv), omega (arith, c .other .ensures), opening t (c .before) .free)
+visit-give-requires t c κs = search needs
 
 visit-visit-requires : (t : ℕ) → visit-lts.Need-visit-requires (given t) (visit-at t) visit.Post Inv μ
 visit-visit-requires t c κs = search needs
@@ -208,9 +208,7 @@ visit-returns-3 t c =
     (c .before .visit .ensures) (not-covered _ (c .match .keys2)))
 
 visit-give-requires-2 : (t : ℕ) → visit-lts.Need-give-requires-2 (given t) (visit-at t) visit.Post Inv μ
-visit-give-requires-2 t c κs =
-    let y = c .before .before .before .before .before .before in
-    (omega (arith, y .before), opening t y .small, opening t y .free)
+visit-give-requires-2 t c κs = search needs
 
 visit-sub-opened-2 : (t : ℕ) → visit-lts.Need-sub-opened-2 (given t) (visit-at t) visit.Post Inv μ
 visit-sub-opened-2 t c = search needs

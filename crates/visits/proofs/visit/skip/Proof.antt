@@ -6,7 +6,7 @@ use lib.ListN.{length}
 use Rattle.model.specs.Walk.{visit}
 use Rattle.format.specs.Bytes.{codes}
 use Rattle.cube.specs.Whole.{wholesAt}
-use Rattle.visits.proofs.Cuts.{room, visit-pass}
+use Rattle.visits.proofs.Cuts.{room, cuts-passed}
 use borrow.Author.Needs.{needs}
 use Rattle.visits.proofs.visit.skip.Statement.{statement}
 use Rattle.visits.proofs.visit.skip.Tie as tie
@@ -50,7 +50,7 @@ loop-again : tie.Need-loop-again Inv-loop μ-loop
 loop-again c =
     let at = c .before .before .before in
     let i = at .loop .inv in
-    (more (c .before .before) .1, omega arith, i .2 ∙ visit-pass _ _ _ _ _ _ (omega arith) (sym (c .before .met .ensures) ∙ c .if1 .left))
+    (more (c .before .before) .1, omega arith, i .2 ∙ cuts-passed _ _ _ _ _ _ (omega arith) (sym (c .before .met .ensures) ∙ c .if1 .left))
 
 returns-2 : tie.Need-returns-2 Inv-loop μ-loop
 returns-2 c =

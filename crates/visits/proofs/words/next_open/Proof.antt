@@ -1,6 +1,6 @@
 -- `visits::words::next_open` meets its contract. Assumes nothing.
-use Rattle.visits.proofs.Wide.{open-here, open-passed, open-ended}
-use Rattle.visits.specs.Words.{wide}
+use Rattle.visits.proofs.WordCubes.{open-here, open-passed, open-ended}
+use Rattle.visits.specs.Words.{cubeOfWords}
 use Rattle.visits.specs.Opening.{firstOpen}
 use native.Mathlib.Omega.{arith}
 use Prim.Native.Nat.{_*_, _-_, _≤_}
@@ -9,7 +9,7 @@ use Rattle.visits.proofs.words.next_open.Statement.{statement}
 use Rattle.visits.proofs.words.next_open.Tie as tie
 
 abbrev Inv-loop : tie.InvT-loop
-Inv-loop near cut from w₀ w = (w ≤ 10) × (32 * w ≤ firstOpen (wide near) (wide cut))
+Inv-loop near cut from w₀ w = (w ≤ 10) × (32 * w ≤ firstOpen (cubeOfWords near) (cubeOfWords cut))
 
 abbrev μ-loop : tie.MeasureT-loop
 μ-loop near cut from w₀ w = 10 - w

@@ -4,11 +4,11 @@ use Prim.Native.Nat.{_+_, _-_, _*_, _≤_, _<_}
 use native.Mathlib.Omega.{arith}
 use mathlib.Core.Path.{_≡_, refl}
 use lib.ListN.{length}
+use borrow.Author.Needs.{needs}
 use Rattle.model.specs.Ceiling.{ceilingFrom, capped}
 use Rattle.format.specs.Bytes.{codes}
 use Rattle.cube.specs.Whole.{wholesAt}
 use Rattle.walk.proofs.Frees.{bound-begun, bound-ended, back, back-turn, part-back-length, part-back, under}
-use borrow.Author.Needs.{needs}
 use Rattle.walk.proofs.ceilings.bound.Statement.{statement}
 use Rattle.walk.proofs.ceilings.bound.Tie as tie
 
@@ -20,40 +20,32 @@ Inv-loop base s at left n₀ k₀ end₀ n k end =
 abbrev μ-loop : tie.MeasureT-loop
 μ-loop base s at left n₀ k₀ end₀ n k end = k
 
--- src/ceilings.rt:75:24
 mul-end : tie.Need-mul-end Inv-loop μ-loop
 mul-end c = search needs
 
--- src/ceilings.rt:75:19
 add-end : tie.Need-add-end Inv-loop μ-loop
 add-end c = search needs
 
--- src/ceilings.rt:76:5
 loop-holds : tie.Need-loop-holds Inv-loop μ-loop
 loop-holds c =
     let x = c .before .before .args in
     (search needs, search needs, search needs, search needs, bound-begun (length (x .base .now)) (x .s .now) (codes (x .base .now)) (x .at) (x .left))
 
--- src/ceilings.rt:77:20
 sub-here : tie.Need-sub-here Inv-loop μ-loop
 sub-here c =
     let x = c .before .before .before .before .args in
     let l = c .before .loop in
     under (x .at) (l .k) (length (x .base .now)) (l .end) (search needs) (l .inv .2)
 
--- src/ceilings.rt:78:27
 sub-climbed : tie.Need-sub-climbed Inv-loop μ-loop
 sub-climbed c = search needs
 
--- src/ceilings.rt:78:27
 part-climbed-start : tie.Need-part-climbed-start Inv-loop μ-loop
 part-climbed-start c = search needs
 
--- src/ceilings.rt:78:27
 part-climbed-end : tie.Need-part-climbed-end Inv-loop μ-loop
 part-climbed-end c = search needs
 
--- src/ceilings.rt:78:9
 climbed-requires : tie.Need-climbed-requires Inv-loop μ-loop
 climbed-requires c κs =
     let x = c .before .before .before .before .before .args in
@@ -61,15 +53,12 @@ climbed-requires c κs =
     let u = under (x .at) (l .k) (length (x .base .now)) (l .end) (search needs) (l .inv .2) in
     (part-back-length (x .s .now) (l .end) (length (x .base .now)) u (l .inv .3), search needs)
 
--- src/ceilings.rt:80:9
 sub-k : tie.Need-sub-k Inv-loop μ-loop
 sub-k c = search needs
 
--- src/ceilings.rt:76:5
 loop-less : tie.Need-loop-less Inv-loop μ-loop
 loop-less c = search needs
 
--- src/ceilings.rt:76:5
 loop-again : tie.Need-loop-again Inv-loop μ-loop
 loop-again c =
     let x = c .before .before .before .before .before .before .args in
@@ -89,7 +78,6 @@ loop-again c =
           (rw e at (c .climbed .ensures .1)),
     )
 
--- src/ceilings.rt:69:1
 returns : tie.Need-returns Inv-loop μ-loop
 returns c =
     let x = c .before .before .before .before .args in

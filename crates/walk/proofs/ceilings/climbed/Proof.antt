@@ -3,32 +3,27 @@ use Prim.Native.Nat.{ℕ, _+_, _*_}
 use mathlib.Core.Path.{refl, sym, ap, _∙_}
 use mathlib.Core.Bool.{true≢false}
 use borrow.Author.Tests.{not-true, not-false}
-use Rattle.model.specs.Ceiling.{capped}
 use borrow.Author.Needs.{needs}
+use Rattle.model.specs.Ceiling.{capped}
 use Rattle.walk.proofs.ceilings.climbed.Statement.{statement}
 use Rattle.walk.proofs.ceilings.climbed.Tie as tie
 
--- src/ceilings.rt:62:9
 meets-requires : tie.Need-meets-requires
 meets-requires c κs = search needs
 
--- src/ceilings.rt:63:9
 returns : tie.Need-returns
 returns c =
     let m = c .before .meets in
     (λ e. refl, λ e. absurd (true≢false (sym e ∙ sym (m .ensures) ∙ not-true _ (c .if1 .taken))))
 
--- src/ceilings.rt:65:12
 opened-by-requires : tie.Need-opened-by-requires
 opened-by-requires c κs =
     let m = c .before .meets in
     (search needs, search needs, sym (m .ensures) ∙ not-false _ (c .if1 .left))
 
--- src/ceilings.rt:65:5
 raised-requires : tie.Need-raised-requires
 raised-requires c κs = search needs
 
--- src/ceilings.rt:57:1
 returns-2 : tie.Need-returns-2
 returns-2 c =
     let m = c .before .before .before .meets in

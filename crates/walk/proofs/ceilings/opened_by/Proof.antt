@@ -1,15 +1,15 @@
 -- `walk::ceilings::opened_by` meets its contract. The loop's invariant: what is counted and what is still to count make the whole.
 -- Assumes nothing.
 use Prim.Native.Nat.{_+_, _-_, _*_, _≤_, _<_}
+use native.Mathlib.Omega.{arith}
 use mathlib.Core.Path.{_≡_}
 use mathlib.Core.Bool.{true}
 use lib.ListN.{length, drop}
+use borrow.Author.Needs.{needs}
 use Rattle.model.specs.Cube.{meet, shares}
 use Rattle.format.specs.Bytes.{codes}
 use Rattle.cube.specs.Count.{freeCount}
 use Rattle.walk.proofs.Frees.{count-turn, met-turn, frees-fewer, frees-left}
-use native.Mathlib.Omega.{arith}
-use borrow.Author.Needs.{needs}
 use Rattle.walk.proofs.ceilings.opened_by.Statement.{statement}
 use Rattle.walk.proofs.ceilings.opened_by.Tie as tie
 
@@ -23,47 +23,36 @@ Inv-loop base cut all₀ met₀ i₀ all met i =
 abbrev μ-loop : tie.MeasureT-loop
 μ-loop base cut all₀ met₀ i₀ all met i = length base - i
 
--- src/ceilings.rt:36:5
 loop-holds : tie.Need-loop-holds Inv-loop μ-loop
 loop-holds c = search needs
 
--- src/ceilings.rt:37:23
 shared-slice-read-places : tie.Need-shared-slice-read-places Inv-loop μ-loop
 shared-slice-read-places c = search needs
 
--- src/ceilings.rt:37:16
 places-requires : tie.Need-places-requires Inv-loop μ-loop
 places-requires c κs = search needs
 
--- src/ceilings.rt:37:9
 add-all : tie.Need-add-all Inv-loop μ-loop
 add-all c = search needs
 
--- src/ceilings.rt:38:23
 shared-slice-read-places-2 : tie.Need-shared-slice-read-places-2 Inv-loop μ-loop
 shared-slice-read-places-2 c = search needs
 
--- src/ceilings.rt:38:33
 shared-slice-read-places-3 : tie.Need-shared-slice-read-places-3 Inv-loop μ-loop
 shared-slice-read-places-3 c = search needs
 
--- src/ceilings.rt:38:16
 places-requires-2 : tie.Need-places-requires-2 Inv-loop μ-loop
 places-requires-2 c κs = search needs
 
--- src/ceilings.rt:38:9
 add-met : tie.Need-add-met Inv-loop μ-loop
 add-met c = search needs
 
--- src/ceilings.rt:39:9
 add-i : tie.Need-add-i Inv-loop μ-loop
 add-i c = search needs
 
--- src/ceilings.rt:36:5
 loop-less : tie.Need-loop-less Inv-loop μ-loop
 loop-less c = search needs
 
--- src/ceilings.rt:36:5
 loop-again : tie.Need-loop-again Inv-loop μ-loop
 loop-again c =
     let x = c .before .before .before .before .before .before .before .before .before .args in
@@ -82,14 +71,12 @@ loop-again c =
       l .inv .7,
     )
 
--- src/ceilings.rt:41:5
 sub-result : tie.Need-sub-result Inv-loop μ-loop
 sub-result c =
     let x = c .before .before .before .before .args in
     let l = c .before .loop in
     frees-fewer (x .base .now) (x .cut .now) (l .i) (l .all) (l .met) (search needs) (omega arith) (l .inv .7) (l .inv .5) (l .inv .6)
 
--- src/ceilings.rt:29:1
 returns : tie.Need-returns Inv-loop μ-loop
 returns c =
     let x = c .before .before .before .before .args in

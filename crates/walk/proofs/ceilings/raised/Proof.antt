@@ -7,26 +7,21 @@ use borrow.Author.Needs.{needs}
 use Rattle.walk.proofs.ceilings.raised.Statement.{statement}
 use Rattle.walk.proofs.ceilings.raised.Tie as tie
 
--- src/ceilings.rt:49:17
 most : (c : tie.Start) → c .args .f * c .args .n ≤ 320 * 4294967295
 most c = mul-le-mul {n₂ = 320} {m₂ = 4294967295} (omega arith) (omega arith)
 
 mul-x : tie.Need-mul-x
 mul-x c = record { fits = omega (arith, most c) }
 
--- src/ceilings.rt:49:13
 add-x : tie.Need-add-x
 add-x c = record { fits = omega (arith, most c) }
 
--- src/ceilings.rt:51:9
 returns : tie.Need-returns
 returns c = rw (le-leb 4294967295 (1 + c .before .args .f * c .before .args .n) (c .if1 .taken))
 
--- src/ceilings.rt:53:5
 cast-result : tie.Need-cast-result
 cast-result c = search needs
 
--- src/ceilings.rt:45:1
 returns-2 : tie.Need-returns-2
 returns-2 c = rw (lt-leb 4294967295 (1 + c .before .args .f * c .before .args .n) (c .if1 .left))
 

@@ -3,11 +3,12 @@ use Prim.Native.Nat.{_+_, _-_}
 use native.Mathlib.Omega.{arith}
 use mathlib.Core.Path.{sym, ap, ap₂, _∙_}
 use lib.ListN.{take, drop, replicate}
-use Rattle.model.specs.Cube.{meet}
-use Rattle.cube.proofs.Wholes.{whole-part, part-length}
-use Rattle.cube.specs.Whole.{cubeOf}
-use Rattle.walk.proofs.Moved.{met-piece}
 use borrow.Author.Needs.{needs}
+use Rattle.model.specs.Cube.{meet}
+use Rattle.format.specs.Limits.{widestCube}
+use Rattle.cube.specs.Whole.{cubeOf}
+use Rattle.cube.proofs.Wholes.{whole-part, part-length}
+use Rattle.walk.proofs.Moved.{met-piece}
 use Rattle.walk.proofs.inclusion.meet_at.Statement.{statement}
 use Rattle.walk.proofs.inclusion.meet_at.Tie as tie
 
@@ -43,14 +44,17 @@ meet-into-requires c κs = search needs
 
 returns : tie.Need-returns
 returns c =
+    let p = c .before .before .before .before .before .before .before .pre in
     let x = c .before .before .before .before .before .before .before .args in
     let q = x .q in
     let s = x .s .now in
     let t = x .t .now in
-    let at = x .at in
+    let b = x .f .base in
+    let a = part-length q s b (omega (arith, p .1 .within)) in
+    let d = part-length q t (x .at) (p .2) in
     ap (cubeOf q) (c .before .meet-into .ensures)
-    ∙ met-piece q (take (5 + q - 5) (drop 5 s)) (take (at + q - at) (drop at t)) (replicate 80 255) (sym (part-length q s 5 (omega arith))) (sym (part-length q t at (omega arith))) (omega arith)
-    ∙ ap₂ meet (whole-part q s 5) (whole-part q t at)
+    ∙ met-piece q (take (b + q - b) (drop b s)) (take (x .at + q - x .at) (drop (x .at) t)) (replicate widestCube 255) (sym a) (sym d) (omega (arith, p .0))
+    ∙ ap₂ meet (whole-part q s b) (whole-part q t (x .at))
 
 pub meet-at-spec : {M : Type 1} → statement M
 meet-at-spec =

@@ -1,16 +1,21 @@
--- `walk::inclusion::walk_back` meets its contract: what `meets` says is the one test. Assumes nothing.
+-- `walk::inclusion::walk_back` meets its contract. Assumes nothing.
+use native.Mathlib.Omega.{arith}
 use mathlib.Core.Path.{_≡_, sym, ap, _∙_}
 use borrow.Author.Tests.{not-true, not-false}
+use borrow.Author.Needs.{needs}
 use Rattle.model.specs.Cube.{shares}
 use Rattle.cube.proofs.Wholes.{whole-part}
 use Rattle.cube.specs.Whole.{wholeAt}
-use Rattle.walk.specs.Lent.{lent}
-use Rattle.visits.specs.Settle.{settle}
+use Rattle.region.specs.Front.{wholeDifference}
 use Rattle.visits.proofs.Walked.{walked-settles}
+use Rattle.visits.specs.Settle.{settle}
 use Rattle.walk.proofs.Restoring.{back-apart, back-met}
-use borrow.Author.Needs.{needs}
 use Rattle.walk.proofs.inclusion.walk_back.Statement.{statement}
 use Rattle.walk.proofs.inclusion.walk_back.Tie as tie
+
+shared : (c : tie.After-meets) → let x = c .before .before .before .before .before .before .args in
+    c .meets .result ≡ shares (wholeAt (x .q) (x .s .now) (x .f .base)) (wholeAt (x .q) (x .t .now) (x .at))
+shared c = let x = c .before .before .before .before .before .before .args in rw (whole-part (x .q) (x .s .now) (x .f .base), whole-part (x .q) (x .t .now) (x .at)) at (c .meets .ensures)
 
 meet-at-requires : tie.Need-meet-at-requires
 meet-at-requires c κs = search needs
@@ -42,34 +47,23 @@ part-meets-end-2 c = search needs
 meets-requires : tie.Need-meets-requires
 meets-requires c κs = search needs
 
-shared : (c : tie.After-meets) →
-    let x = c .before .before .before .before .before .before .args in
-    c .meets .result ≡ shares (wholeAt (x .q) (x .s .now) 5) (wholeAt (x .q) (x .t .now) (x .at))
-shared c =
-    let x = c .before .before .before .before .before .before .args in
-    rw (whole-part (x .q) (x .s .now) 5, whole-part (x .q) (x .t .now) (x .at)) at (c .meets .ensures)
-
 returns : tie.Need-returns
 returns c =
     let x = c .before .before .before .before .before .before .before .args in
-    back-apart (lent (x .q) (x .s .now)) (wholeAt (x .q) (x .t .now) (x .at)) (sym (shared (c .before)) ∙ not-true _ (c .if1 .taken)) (x .a)
-
-count-at-requires : tie.Need-count-at-requires
-count-at-requires c κs = search needs
+    back-apart (wholeDifference (x .q) (x .s .now) (x .f)) (wholeAt (x .q) (x .t .now) (x .at)) (sym (shared (c .before)) ∙ not-true _ (c .if1 .taken)) (x .a)
 
 walk-requires : tie.Need-walk-requires
 walk-requires c κs = search needs
 
 returns-2 : tie.Need-returns-2
 returns-2 c =
-    let m = c .before .before .before in
-    let x = m .before .before .before .before .before .before .args in
-    let n = c .before .count-at .ensures .0 in
-    let met = m .before .before .before .meet-at in
+    let x = c .before .before .before .before .before .before .before .before .args in
+    let p = c .before .before .before .before .before .before .before .before .pre in
+    let met = c .before .before .before .before .before .meet-at in
     let said = c .walk .ensures
-    ∙ walked-settles (x .q) (met .result) (x .s .now) _ _ (x .a) (search needs, rw n (search needs), rw n (search needs), search needs) in
-    rw (n, met .ensures) at said
-    ∙ ap (settle (x .a)) (sym (back-met (lent (x .q) (x .s .now)) (wholeAt (x .q) (x .t .now) (x .at)) (sym (shared m) ∙ not-false _ (c .before .before .if1 .left))))
+    ∙ walked-settles (x .q) (met .result) (x .s .now) _ _ (x .a) (p .0, omega (arith, p .1 .within), omega (arith, p .1 .few), p .3) in
+    rw (met .ensures) at said
+    ∙ ap (settle (x .a)) (sym (back-met (wholeDifference (x .q) (x .s .now) (x .f)) (wholeAt (x .q) (x .t .now) (x .at)) (sym (shared (c .before .before)) ∙ not-false _ (c .before .if1 .left))))
 
 pub walk-back-spec : {M : Type 1} → statement M
 walk-back-spec =
@@ -86,6 +80,5 @@ walk-back-spec =
     part-meets-end-2
     meets-requires
     returns
-    count-at-requires
     walk-requires
     returns-2)

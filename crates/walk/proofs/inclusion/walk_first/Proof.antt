@@ -1,12 +1,13 @@
 -- `walk::inclusion::walk_first` meets its contract. Assumes nothing.
 use Prim.Native.Nat.{_+_, _*_, _≤_}
-use native.Mathlib.Nat.{mul-le-mul}
 use native.Mathlib.Omega.{arith}
+use native.Mathlib.Nat.{mul-le-mul}
 use mathlib.Core.Path.{_≡_, _∙_}
 use lib.ListN.{length}
+use borrow.Author.Needs.{needs}
+use Rattle.format.specs.Limits.{widestCube, mostCuts}
 use Rattle.visits.proofs.Walked.{walked-settles}
 use Rattle.walk.proofs.Recorded.{loaded}
-use borrow.Author.Needs.{needs}
 use Rattle.walk.proofs.inclusion.walk_first.Statement.{statement}
 use Rattle.walk.proofs.inclusion.walk_first.Tie as tie
 
@@ -19,9 +20,6 @@ load-requires c κs = search needs
 slice-aggregate-walk : tie.Need-slice-aggregate-walk
 slice-aggregate-walk c = search needs
 
-count-at-requires : tie.Need-count-at-requires
-count-at-requires c κs = search needs
-
 add-walk : tie.Need-add-walk
 add-walk c = search needs
 
@@ -30,25 +28,18 @@ walk-requires c κs = search needs
 
 returns : tie.Need-returns
 returns c =
-    let p = c .before .before .before .before .before .before .before in
-    let x = p .args in
-    let l = c .before .before .before .load in
+    let given = c .before .before .before .before .before .before .before .pre in
+    let x = c .before .before .before .before .before .before .before .args in
     let g = c .before .before .before .before .gathered in
-    let n = c .before .count-at in
-    let most : (n .result + 1) * x .q ≤ 65 * 80 = mul-le-mul {n₂ = 65} {m₂ = 80} (omega (arith, n .ensures .0)) (omega arith) in
-    let long : length (g .result) ≡ 5200 = search needs in
+    let p = given .0 in
+    let l = c .before .before .before .load in
+    let most : (x .f .cuts + 1) * x .q ≤ (mostCuts + 1) * widestCube = mul-le-mul {n₂ = mostCuts + 1} {m₂ = widestCube} (omega (arith, p .first .few)) (p .short) in
+    let long : length (g .result) ≡ (mostCuts + 1) * widestCube = search needs in
     let said = c .walk .ensures
-    ∙ walked-settles (x .q) (l .result) (g .result) 0 (n .result + 1) (x .a) (search needs, omega arith, omega (arith, n .ensures .0), search needs) in
-    rw (n .ensures .0, g .ensures, loaded (x .q) (x .s .now) 5 (l .result) (l .ensures)) at said
+    ∙ walked-settles (x .q) (l .result) (g .result) 0 (x .f .cuts + 1) (x .a) (p .short, omega arith, omega (arith, p .first .few), given .1) in
+    rw (g .ensures, loaded (x .q) (x .s .now) (x .f .base) (l .result) (l .ensures)) at said
 
 pub walk-first-spec : {M : Type 1} → statement M
 walk-first-spec =
     tie.close
-    (tie.spec
-    gathered-requires
-    load-requires
-    slice-aggregate-walk
-    count-at-requires
-    add-walk
-    walk-requires
-    returns)
+    (tie.spec gathered-requires load-requires slice-aggregate-walk add-walk walk-requires returns)

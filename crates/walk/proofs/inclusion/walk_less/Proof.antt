@@ -1,11 +1,10 @@
 -- `walk::inclusion::walk_less` meets its contract. Assumes nothing.
 use native.Mathlib.Omega.{arith}
 use mathlib.Core.Path.{sym, _∙_}
-use Rattle.visits.specs.Settle.{view}
-use Rattle.visits.proofs.Turn.{is-covered, not-covered}
-use Rattle.visits.proofs.Settle.{settle-keeps}
-use Rattle.walk.proofs.Restoring.{said-on, said-stop}
 use borrow.Author.Needs.{needs}
+use Rattle.visits.proofs.Settle.{settle-keeps, said-on, said-stop}
+use Rattle.visits.proofs.Turn.{is-covered, not-covered}
+use Rattle.visits.specs.Settle.{says}
 use Rattle.walk.proofs.inclusion.walk_less.Statement.{statement}
 use Rattle.walk.proofs.inclusion.walk_less.Tie as tie
 
@@ -19,20 +18,19 @@ returns : tie.Need-returns
 returns c =
     let x = c .before .before .before .before .args in
     let v = c .before .walk-first in
-    said-stop (x .a) _ _ (view (x .q) (v .result)) (v .ensures) (not-covered (v .result .verdict) (c .match .keys2))
+    said-stop (x .a) _ _ (says (x .q) (v .result)) (v .ensures) (not-covered (v .result .verdict) (c .match .keys2))
 
 walk-restored-requires : tie.Need-walk-restored-requires
 walk-restored-requires c κs =
+    let x = c .before .before .before .before .before .args in let given = c .before .before .before .before .before .pre in
     let v = c .before .before .walk-first in
-    let p = c .before .before .before .before .before in
-    (p .pre .0, p .pre .1, omega (arith, p .pre .2, settle-keeps (p .args .a) _ (view (p .args .q) (v .result)) (v .ensures)))
+    (given .0, omega (arith, given .1, settle-keeps (x .a) _ (says (x .q) (v .result)) (v .ensures)))
 
 returns-2 : tie.Need-returns-2
 returns-2 c =
-    let m = c .before .before in
-    let x = m .before .before .before .before .args in
-    let v = m .before .walk-first in
-    c .walk-restored .ensures ∙ sym (said-on (x .a) _ _ (view (x .q) (v .result)) (v .ensures) (is-covered (v .result .verdict) (m .match .keys1)))
+    let x = c .before .before .before .before .before .before .args in
+    let v = c .before .before .before .walk-first in
+    c .walk-restored .ensures ∙ sym (said-on (x .a) _ _ (says (x .q) (v .result)) (v .ensures) (is-covered (v .result .verdict) (c .before .before .match .keys1)))
 
 pub walk-less-spec : {M : Type 1} → statement M
 walk-less-spec =

@@ -1,47 +1,39 @@
 -- `walk::told::tell` meets its contract, for each verdict. Assumes nothing.
 use Prim.Native.Nat.{ℕ}
 use mathlib.Core.Path.{sym, ap, _∙_}
+use borrow.Author.Needs.{needs}
 use Rattle.answer.specs.Answer.{showing}
 use Rattle.format.specs.Told.{over}
-use Rattle.walk.specs.Tell.{toldOf}
+use Rattle.cube.proofs.Showing.{shown-fits}
 use Rattle.visits.specs.declared.allowance.Verdict.{Verdict}
-use borrow.Author.Needs.{needs}
+use Rattle.walk.specs.Tell.{toldOf}
 use Rattle.walk.proofs.told.tell.Statement.{statement}
 use Rattle.walk.proofs.told.tell.Tie as tie
 
--- src/told.rt:24:29
 enum-told : tie.Need-enum-told
 enum-told c = search needs
 
--- src/told.rt:24:29
 counted-requires : tie.Need-counted-requires
 counted-requires c κs = search needs
 
--- src/told.rt:25:31
 enum-told-2 : tie.Need-enum-told-2
 enum-told-2 c = search needs
 
--- src/told.rt:25:31
 counted-requires-2 : tie.Need-counted-requires-2
 counted-requires-2 c κs = search needs
 
--- src/told.rt:27:17
 enum-told-3 : tie.Need-enum-told-3
 enum-told-3 c = search needs
 
--- src/told.rt:28:13
 show-requires : tie.Need-show-requires
 show-requires c κs = search needs
 
--- src/told.rt:29:36
 header-len-requires : tie.Need-header-len-requires
 header-len-requires c κs = search needs
 
--- src/told.rt:29:13
 showing-requires : tie.Need-showing-requires
 showing-requires c κs = search needs
 
--- src/told.rt:15:1
 returns : tie.Need-returns
 returns c =
     let x = c .before .before .before .before .before .args in
@@ -50,7 +42,6 @@ returns c =
       ap (λ (k : Verdict). over (x .out .now) (toldOf (x .w) k (x .v .allowance .spent) (x .v .piece) .bytes)) e,
     )
 
--- src/told.rt:15:1
 returns-2 : tie.Need-returns-2
 returns-2 c =
     let x = c .before .before .before .before .before .args in
@@ -59,17 +50,18 @@ returns-2 c =
       ap (λ (k : Verdict). over (x .out .now) (toldOf (x .w) k (x .v .allowance .spent) (x .v .piece) .bytes)) e,
     )
 
--- src/told.rt:15:1
 same-length : tie.Need-same-length
 same-length c = search needs
 
--- src/told.rt:15:1
 returns-3 : tie.Need-returns-3
 returns-3 c =
+    let show = c .before .before .before .before .show in
+    let enum-told3 = c .before .before .before .before .before .before .before .enum-told3 in
     let x = c .before .before .before .before .before .before .before .before .before .before .before .args in
-    let e = sym (c .before .before .before .before .before .before .before .enum-told3 .given .1) in (
+    let e = sym (enum-told3 .given .1) in (
       c .showing .ensures ∙ ap (λ (b : ℕ). showing (x .v .allowance .spent) b) (c .before .header-len .ensures) ∙ ap (λ (k : Verdict). toldOf (x .w) k (x .v .allowance .spent) (x .v .piece) .answer) e,
-      c .before .before .before .before .show .ensures ∙ ap (λ (k : Verdict). over (x .out .now) (toldOf (x .w) k (x .v .allowance .spent) (x .v .piece) .bytes)) e,
+      show .ensures ∙ shown-fits (x .v .piece) (search needs) (x .out .now) (x .w) (search needs) (search needs)
+          ∙ ap (λ (k : Verdict). over (x .out .now) (toldOf (x .w) k (x .v .allowance .spent) (x .v .piece) .bytes)) e,
     )
 
 pub tell-spec : {M : Type 1} → statement M

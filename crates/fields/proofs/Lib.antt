@@ -1,0 +1,3 @@
+-- The laws that the crate's proofs share.
+pub mod Fielding
+pub mod Bounding

@@ -1,0 +1,16 @@
+-- Where a field stands.
+--   fieldTests w s n == the tests of a width given directly, and then of a field of n positions from s on
+-- Assumes nothing: these are definitions.
+use Prim.Native.Nat.{ℕ, _+_}
+use Rattle.answer.specs.declared.Answer.{Answer}
+use Rattle.answer.specs.Answer.{said}
+use Rattle.format.specs.Rows.{Rows, last, row, then, below, is}
+use Rattle.format.specs.Told.{widthTests}
+
+-- "A field starts at s and has n positions, n at least 1, s + n at most W."
+abbrev pub fieldTests : ℕ → ℕ → ℕ → Rows Answer
+fieldTests w s n =
+    then (widthTests w)
+    (row (is n 0) (said 21)
+    (row (below w (s + n)) (said 21)
+    (last (said 0))))

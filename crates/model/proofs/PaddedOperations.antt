@@ -1,0 +1,73 @@
+-- Differences of w positions with u unused places behind each cube: as free positions these change nothing of what is made and walked of them. Assumes nothing.
+--   each-padded         what is made of each
+--   tidy-padded, intersection-padded, intersections-padded, restored-padded, subtraction-padded, subtractions-padded    the operations
+--   walk-padded, region-padded, inclusion-padded    the walks
+use Prim.Native.Nat.{ℕ}
+use mathlib.Core.Path.{_≡_, refl, sym, ap, ap₂, _∙_}
+use mathlib.Core.List.{List, [], _∷_, _++_, map, map-append}
+use mathlib.Core.Bool.{Bool, true, false, cond}
+use Rattle.model.specs.Cube.{Cube, meet, shares}
+use Rattle.model.specs.Difference.{Difference, less, Region}
+use Rattle.model.specs.Sized.{All, Sized, Good}
+use Rattle.model.specs.Tidy.{tidy, each, tidyRegion}
+use Rattle.model.specs.Algebra.{intersection, intersections, restored, subtraction, subtractions}
+use Rattle.model.specs.Walk.{walk, walkRegion, walkInclusion}
+use Rattle.model.specs.Padding.{pad, padFound, padDifference}
+use Rattle.model.proofs.Padding.{sized-lengths, meet-pad, shares-pad, in-turn-pad, visit-pad, tidy-pad}
+use Rattle.model.proofs.Setting.{good-subtraction}
+
+module _ (w u : ℕ) where
+  abbrev P : Region → Region
+  P r = map (padDifference u) r
+
+  cond-padded : (t : Bool) (r s : Region) → cond t (P r) (P s) ≡ P (cond t r s)
+  cond-padded true r s = refl
+  cond-padded false r s = refl
+
+  -- the operations
+  each-padded : (f g : Difference → Region) → ((d : Difference) → Good w d → f (padDifference u d) ≡ P (g d)) → (r : Region) → All (Good w) r
+      → each f (P r) ≡ P (each g r)
+  each-padded f g e [] a = refl
+  each-padded f g e (d ∷ r) a = rw (e d (a .0), each-padded f g e r (a .1)) (sym (map-append (padDifference u) (g d) (each g r)))
+
+  pub tidy-padded : (r : Region) → All (Good w) r → tidyRegion (P r) ≡ P (tidyRegion r)
+  tidy-padded r a = each-padded tidy tidy (λ d g. tidy-pad u w (d .base) [] (d .cuts) (g .base .wide) tt (sized-lengths w (d .cuts) (g .cuts))) r a
+
+  intersection-padded : (a b : Difference) → Good w a → Good w b → intersection (padDifference u a) (padDifference u b) ≡ P (intersection a b)
+  unfolding intersection
+  intersection-padded a b ga gb =
+      let l = ga .base .wide ∙ sym (gb .base .wide) in
+      rw (shares-pad u (a .base) (b .base) l, meet-pad u (a .base) (b .base) l, ← map-append (pad u) (a .cuts) (b .cuts))
+      (cond-padded (shares (a .base) (b .base)) (less (meet (a .base) (b .base)) (a .cuts ++ b .cuts) ∷ []) [])
+
+  pub intersections-padded : (r s : Region) → All (Good w) r → All (Good w) s → intersections (P r) (P s) ≡ P (intersections r s)
+  intersections-padded r s gr gs =
+      each-padded (λ a. each (intersection a) (P s)) (λ a. each (intersection a) s)
+      (λ a ga. each-padded (intersection (padDifference u a)) (intersection a) (λ b gb. intersection-padded a b ga gb) s gs) r gr
+
+  restored-padded : (a : Difference) → Good w a → (cs : List Cube) → All (Sized w) cs → restored (padDifference u a) (map (pad u) cs) ≡ P (restored a cs)
+  unfolding restored
+  restored-padded a g [] l = refl
+  restored-padded a g (c ∷ cs) l =
+      let e = g .base .wide ∙ sym (l .0 .wide) in
+      rw (shares-pad u (a .base) c e, meet-pad u (a .base) c e, restored-padded a g cs (l .1))
+      (cond-padded (shares (a .base) c) (less (meet (a .base) c) (a .cuts) ∷ restored a cs) (restored a cs))
+
+  subtraction-padded : (a b : Difference) → Good w a → Good w b → subtraction (padDifference u a) (padDifference u b) ≡ P (subtraction a b)
+  subtraction-padded a b ga gb =
+      ap₂ (λ (cs : List Cube) (r : Region). less (pad u (a .base)) cs ∷ r)
+      (sym (map-append (pad u) (a .cuts) (b .base ∷ []))) (restored-padded a ga (b .cuts) (gb .cuts))
+
+  pub subtractions-padded : (r : Region) (b : Difference) → All (Good w) r → Good w b → subtractions (P r) (padDifference u b) ≡ P (subtractions r b)
+  subtractions-padded r b gr gb =
+      each-padded (λ a. subtraction a (padDifference u b)) (λ a. subtraction a b) (λ a ga. subtraction-padded a b ga gb) r gr
+
+  -- the walks
+  pub walk-padded : (d : Difference) → Good w d → walk (padDifference u d) ≡ padFound u (walk d)
+  walk-padded d g = visit-pad u w (d .cuts) (d .base) (sized-lengths w (d .cuts) (g .cuts)) (g .base .wide)
+
+  region-padded : (r : Region) → All (Good w) r → walkRegion (P r) ≡ padFound u (walkRegion r)
+  region-padded = in-turn-pad u (Good w) (padDifference u) walk walk walk-padded
+
+  pub inclusion-padded : (a b : Difference) → Good w a → Good w b → walkInclusion (padDifference u a) (padDifference u b) ≡ padFound u (walkInclusion a b)
+  inclusion-padded a b g h = ap walkRegion (subtraction-padded a b g h) ∙ region-padded (subtraction a b) (good-subtraction w a b g h)
