@@ -68,12 +68,12 @@ module _ (base s old : List ℕ) (at k : ℕ) where
           }
 
 -- the cuts cs, taken with k kept in `old`, come to the cuts ds, to be taken with j kept in `now`
-abbrev pub Goes : List ℕ → List ℕ → ℕ → List Cube → List ℕ → ℕ → List Cube → Type 0
-Goes base old k cs now j ds =
+abbrev pub TakesOn : List ℕ → List ℕ → ℕ → List Cube → List ℕ → ℕ → List Cube → Type 0
+TakesOn base old k cs now j ds =
     (later : List Cube) → tidyFrom (codes base) (keptIn base old k) (cs ++ later) ≡ tidyFrom (codes base) (keptIn base now j) (ds ++ later)
 
 module _ (base old : List ℕ) (k : ℕ) (cs : List Cube) (s now : List ℕ) (j next left : ℕ)
-    (goes : Goes base old k cs now j (wholesAt (length base) s next left)) where
+    (goes : TakesOn base old k cs now j (wholesAt (length base) s next left)) where
   -- what the next cut comes to, before the others
   next-cut : (new : List ℕ) (m : Made) → 0 < left → Taken base now j (wholeAt (length base) s next ∷ []) new m (j + 1) → (later : List Cube)
       → tidyFrom (codes base) (keptIn base old k) (cs ++ later) ≡ onward base new m (wholesAt (length base) s (next + length base) (left - 1) ++ later)
@@ -81,7 +81,7 @@ module _ (base old : List ℕ) (k : ℕ) (cs : List Cube) (s now : List ℕ) (j 
       goes later ∙ rw (wholes-turn (length base) s next left h) (t .goes (wholesAt (length base) s (next + length base) (left - 1) ++ later))
 
   pub row-kept : (new : List ℕ) (m : Made) (i : ℕ) → 0 < left → Taken base now j (wholeAt (length base) s next ∷ []) new m (j + 1) → m ≡ Kept i
-      → Goes base old k cs new i (wholesAt (length base) s (next + length base) (left - 1))
+      → TakesOn base old k cs new i (wholesAt (length base) s (next + length base) (left - 1))
   unfolding onward
   row-kept new m i h t e later = rw e at (next-cut new m h t later)
 

@@ -27,8 +27,8 @@ module _ (w : ℕ) (a b : List ℕ) where
   abbrev inRows : Rows Told
   inRows = yesOr (within (readCube w a) (readCube w b))
 
-  abbrev numberRows : Rows Told
-  numberRows = yesOr (within (readCube w b) (readCube w a) || within (readCube w a) (readCube w b))
+  abbrev eitherRows : Rows Told
+  eitherRows = yesOr (within (readCube w b) (readCube w a) || within (readCube w a) (readCube w b))
 
   abbrev meetRows : ℕ → Rows Told
   meetRows room =
@@ -49,7 +49,7 @@ module _ (w : ℕ) (a b : List ℕ) where
 
     pub number-refused : silent r ≡ wider-number w a b
     unfolding wider-number
-    number-refused = pair-refused w a b r is silent numberRows h
+    number-refused = pair-refused w a b r is silent eitherRows h
 
     pub meet-refused : (room : ℕ) → silent r ≡ cube-meet w a b room
     unfolding cube-meet
@@ -90,15 +90,15 @@ module _ (w : ℕ) (a b : List ℕ) where
 
     pub number-first : liesIn b a ≡ true → silent (said 1) ≡ wider-number w a b
     unfolding wider-number
-    number-first e = reached 0 numberRows (rw (sym holds ∙ e)) ∙ pair-passed w a b r is silent numberRows h
+    number-first e = reached 0 eitherRows (rw (sym holds ∙ e)) ∙ pair-passed w a b r is silent eitherRows h
 
     pub number-second : liesIn a b ≡ true → silent (said 1) ≡ wider-number w a b
     unfolding wider-number
-    number-second e = reached 0 numberRows (rw (sym lies ∙ e) (or-true (within (readCube w b) (readCube w a)))) ∙ pair-passed w a b r is silent numberRows h
+    number-second e = reached 0 eitherRows (rw (sym lies ∙ e) (or-true (within (readCube w b) (readCube w a)))) ∙ pair-passed w a b r is silent eitherRows h
 
     pub number-neither : liesIn b a ≡ false → liesIn a b ≡ false → silent (said 2) ≡ wider-number w a b
     unfolding wider-number
-    number-neither d e = reached 1 numberRows (rw (sym holds ∙ d, sym lies ∙ e), tt) ∙ pair-passed w a b r is silent numberRows h
+    number-neither d e = reached 1 eitherRows (rw (sym holds ∙ d, sym lies ∙ e), tt) ∙ pair-passed w a b r is silent eitherRows h
 
     pub wider-first : liesIn b a ≡ true → first ≡ wider w a b
     unfolding wider

@@ -106,7 +106,7 @@ module _ (w : ℕ) (s : List ℕ) where
       rw (cube-written c (cubesBytes cs ++ rest) at (g .0) f, read, sound, later .0, later .1) (refl, refl)
 
 -- a record, written
-pub length-written : (w : ℕ) (d : Difference) → Good w d → length (differenceBytes w d) ≡ 2 + differenceLen (length (d .cuts)) w
+pub length-written : (w : ℕ) (d : Difference) → Good w d → length (differenceBytes w d) ≡ 2 + differenceLen (length (d .cuts)) (cubeLen w)
 unfolding differenceBytes frontBytes
 length-written w d g = omega (arith, cubes-length w (d .base ∷ d .cuts) (g .base, g .cuts))
 
@@ -116,7 +116,7 @@ bytes-written w d few = (omega arith, (omega arith, (omega arith, (omega arith, 
 
 module _ (w : ℕ) (d : Difference) (s post : List ℕ) (at : ℕ) (g : Good w d) (few : length (d .cuts) ≤ mostCuts) (narrow : w ≤ widest)
     (e : drop at s ≡ differenceBytes w d ++ post) where
-  short : differenceLen (length (d .cuts)) w < 65536
+  short : differenceLen (length (d .cuts)) (cubeLen w) < 65536
   short =
       let m = mul-le-mul {n₁ = length (d .cuts) + 1} {m₁ = cubeLen w} {n₂ = mostCuts + 1} {m₂ = cubeLen widest} (omega arith) (omega arith) in
       omega arith
@@ -124,24 +124,24 @@ module _ (w : ℕ) (d : Difference) (s post : List ℕ) (at : ℕ) (g : Good w d
   abbrev k : ℕ
   k = length (d .cuts)
 
-  pub length-read : lengthAt s at ≡ differenceLen k w
+  pub length-read : lengthAt s at ≡ differenceLen k (cubeLen w)
   unfolding differenceBytes frontBytes
-  length-read = u16-read s _ at (differenceLen k w) short e
+  length-read = u16-read s _ at (differenceLen k (cubeLen w)) short e
 
   pub kind-read : kindAt s at ≡ differenceKind
   unfolding differenceBytes frontBytes
-  kind-read = u16-read s _ (at + 2) differenceKind (omega arith) (drop-past s (u16Bytes (differenceLen k w)) _ at 2 e refl)
+  kind-read = u16-read s _ (at + 2) differenceKind (omega arith) (drop-past s (u16Bytes (differenceLen k (cubeLen w))) _ at 2 e refl)
 
   pub count-read : countAt s at ≡ k
   unfolding differenceBytes frontBytes countAt
-  count-read = byte-read s _ (at + 4) k (drop-past s (u16Bytes (differenceLen k w) ++ u16Bytes differenceKind) _ at 4 e refl)
+  count-read = byte-read s _ (at + 4) k (drop-past s (u16Bytes (differenceLen k (cubeLen w)) ++ u16Bytes differenceKind) _ at 4 e refl)
 
   pub next-read : nextAt s at ≡ at + length (differenceBytes w d)
   next-read = omega (arith, length-read, length-written w d g)
 
   cubes : drop (baseAt s at) s ≡ cubesBytes (d .base ∷ d .cuts) ++ post
   unfolding differenceBytes frontBytes baseAt frontLen
-  cubes = drop-past s (u16Bytes (differenceLen k w) ++ (u16Bytes differenceKind ++ (k ∷ []))) (cubesBytes (d .base ∷ d .cuts) ++ post) at 5 e refl
+  cubes = drop-past s (u16Bytes (differenceLen k (cubeLen w)) ++ (u16Bytes differenceKind ++ (k ∷ []))) (cubesBytes (d .base ∷ d .cuts) ++ post) at 5 e refl
 
   both : (cubesAt w s (baseAt s at) (suc k) ≡ d .base ∷ d .cuts) × (cubesFault w s (baseAt s at) (suc k) ≡ 0)
   both = cubes-written w s (d .base ∷ d .cuts) post (baseAt s at) (g .base, g .cuts) cubes
@@ -158,7 +158,7 @@ module _ (w : ℕ) (d : Difference) (s post : List ℕ) (at : ℕ) (g : Good w d
   unfolding differenceFault
   record-accepted alone n h a =
       let c : cubesFault w s (baseAt s at) (countAt s at + 1) ≡ 0 = rw (count-read, add-one) (both .1) in
-      let l : lengthAt s at ≡ differenceLen (countAt s at) w = rw count-read length-read in
+      let l : lengthAt s at ≡ differenceLen (countAt s at) (cubeLen w) = rw count-read length-read in
       let m : length (differenceBytes w d) + length post ≡ length s - at = simp (length-append, length-drop) at (sym (ap length e)) in
       sym (reached 9 (differenceRows alone w n s at) (omega (arith, length-read, kind-read, count-read, length-written w d g))) ∙ c
 
@@ -179,7 +179,7 @@ module _ (w : ℕ) (d : Difference) (g : Good w d) (few : length (d .cuts) ≤ m
 pub record Record (alone : Bool) (w n : ℕ) (s : List ℕ) (at : ℕ) : Type 0 where
   pub begun : at + 2 ≤ length s
   pub within : nextAt s at ≤ length s
-  pub size : lengthAt s at ≡ differenceLen (countAt s at) w
+  pub size : lengthAt s at ≡ differenceLen (countAt s at) (cubeLen w)
   pub kind : kindAt s at ≡ differenceKind
   pub few : countAt s at ≤ mostCuts
   pub room : n < mostDifferences

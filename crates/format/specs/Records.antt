@@ -4,7 +4,7 @@
 --   nextAt s at              == where the record at an offset ends
 --   frontLen k               == how many bytes stand in front of the base of a difference with k cuts
 --   countAt, baseAt          == the count of cuts of the record of a difference, and where its base starts
---   differenceLen k w        == the length of a kind 2 record with k cuts
+--   differenceLen k q        == the length of a kind 2 record with k cuts of q bytes
 --   cubeAt w s at            == the cube of w positions that stands at an offset
 --   cubesAt w s at k         == the k cubes from an offset on
 --   differenceAt w s at      == the difference whose kind 2 record stands at an offset
@@ -56,7 +56,7 @@ baseAt s at = at + frontLen (countAt s at)
 
 -- "its length is 3 + (k+1) times ceil(W/4)"
 abbrev pub differenceLen : ℕ → ℕ → ℕ
-differenceLen k w = 3 + (k + 1) * cubeLen w
+differenceLen k q = 3 + (k + 1) * q
 
 -- read
 unfoldable pub cubeAt : ℕ → List ℕ → ℕ → Cube
@@ -117,7 +117,7 @@ numberRows alone w n s at =
     (row (below mostDifferences (n + 1)) 19
     (row (below (lengthAt s at) 3) 17
     (row (below mostCuts (countAt s at)) 18
-    (row (isnt (lengthAt s at) (differenceLen (countAt s at) w)) 17
+    (row (isnt (lengthAt s at) (differenceLen (countAt s at) (cubeLen w))) 17
     (row (isnt (bytesAfter alone s at) 0) 17
     (last 0))))))
 
@@ -138,7 +138,7 @@ cubesBytes [] = []
 cubesBytes (c ∷ cs) = writeCube c ++ cubesBytes cs
 
 unfoldable pub frontBytes : ℕ → ℕ → List ℕ
-frontBytes k q = u16Bytes (3 + (k + 1) * q) ++ (u16Bytes differenceKind ++ (k ∷ []))
+frontBytes k q = u16Bytes (differenceLen k q) ++ (u16Bytes differenceKind ++ (k ∷ []))
 
 unfoldable pub differenceBytes : ℕ → Difference → List ℕ
 differenceBytes w d = frontBytes (length (d .cuts)) (cubeLen w) ++ cubesBytes (d .base ∷ d .cuts)

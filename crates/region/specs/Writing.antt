@@ -1,4 +1,5 @@
 -- What is written of a record.
+--   limited k q x rest     == x where k cuts or cubes of q bytes are above their limits, before the tests `rest`
 --   lenRows k q            == the tests of the next line
 --   recordLen k q          == the bytes of the whole record; 0 where k or q is above its limit
 --   longestRecord          == a record has no more bytes than this
@@ -18,11 +19,11 @@ use Rattle.format.specs.Records.{frontLen, frontBytes}
 use Rattle.cube.specs.Lay.{put}
 use Rattle.cube.specs.Whole.{wholeAt, wholesAt}
 
+abbrev pub limited : {A : Type 0} → ℕ → ℕ → A → Rows A → Rows A
+limited k q x rest = row (below mostCuts k) x (row (below widestCube q) x rest)
+
 abbrev pub lenRows : ℕ → ℕ → Rows ℕ
-lenRows k q =
-    row (below mostCuts k) 0
-    (row (below widestCube q) 0
-    (last (frontLen k + (k + 1) * q)))
+lenRows k q = limited k q 0 (last (frontLen k + (k + 1) * q))
 
 unfoldable pub recordLen : ℕ → ℕ → ℕ
 recordLen k q = outcome (lenRows k q)
@@ -38,20 +39,13 @@ abbrev pub rowDifference : ℕ → ℕ → List ℕ → Difference
 rowDifference k q cubes = less (wholeAt q cubes 0) (wholesAt q cubes q k)
 
 abbrev pub frontRows : List ℕ → ℕ → ℕ → Rows (List ℕ)
-frontRows old k q =
-    row (below mostCuts k) old
-    (row (below widestCube q) old
-    (last (put old 0 (frontBytes k q))))
+frontRows old k q = limited k q old (last (put old 0 (frontBytes k q)))
 
 unfoldable pub putFront : List ℕ → ℕ → ℕ → List ℕ
 putFront old k q = outcome (frontRows old k q)
 
 abbrev pub putRows : List ℕ → List ℕ → ℕ → ℕ → Rows (List ℕ)
-putRows old cubes k q =
-    row (below mostCuts k) old
-    (row (below widestCube q) old
-    (row (below (length cubes) ((k + 1) * q)) old
-    (last (put old 0 (recordBytes cubes k q)))))
+putRows old cubes k q = limited k q old (row (below (length cubes) ((k + 1) * q)) old (last (put old 0 (recordBytes cubes k q))))
 
 unfoldable pub putRecord : List ℕ → List ℕ → ℕ → ℕ → List ℕ
 putRecord old cubes k q = outcome (putRows old cubes k q)

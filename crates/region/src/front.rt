@@ -4,6 +4,7 @@ ghost use Rattle.region.specs.Front.{FrontIs};
 use super::bytes::byte_at;
 use super::bytes::u16_at;
 use super::limits::FRONT;
+use super::limits::LENGTH;
 use cube::least;
 
 // What the record at an offset says of itself: its length and its kind; and of a difference how many cuts it has, where its base starts and where it
@@ -37,6 +38,6 @@ pub fn front_at(s: &[u8], at: usize) -> Front
         kind: u16_at(rest, 2),
         cuts: byte_at(rest, 4),
         base: at + least(FRONT, end - at),
-        next: at + least(2 + length, end - at),
+        next: at + least(LENGTH + length, end - at),
     }
 }

@@ -11,6 +11,7 @@ ghost use Rattle.region.specs.Reader.{ReadIs};
 use super::frame::frame_fault;
 use super::front::Front;
 use super::front::front_at;
+use super::limits::COUNTED;
 use super::limits::DIFFERENCE_KIND;
 use super::limits::MOST_CUTS;
 use super::limits::MOST_DIFFERENCES;
@@ -29,7 +30,7 @@ fn numbers_fault(s: &[u8], at: usize, front: Front, w: usize, n: usize, alone: b
     if MOST_DIFFERENCES <= n {
         return 19;
     }
-    if front.length < 3 {
+    if front.length < COUNTED {
         return 17;
     }
     if MOST_CUTS < front.cuts {
@@ -39,7 +40,7 @@ fn numbers_fault(s: &[u8], at: usize, front: Front, w: usize, n: usize, alone: b
     if 65535 < q {
         return 17;
     }
-    if front.length != 3 + (front.cuts + 1) * q {
+    if front.length != COUNTED + (front.cuts + 1) * q {
         return 17;
     }
     if alone {

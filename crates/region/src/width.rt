@@ -5,6 +5,7 @@ ghost use Rattle.format.specs.Records.{widthOf, firstAt, widthFault};
 use super::bytes::u16_at;
 use super::frame::frame_fault;
 use super::front::front_at;
+use super::limits::LENGTH;
 use super::limits::WIDTH_KIND;
 use super::limits::WIDTH_LENGTH;
 use cube::WIDEST;
@@ -20,7 +21,7 @@ pub(crate) fn width_of(s: &[u8]) -> usize
 pub fn first_at(s: &[u8]) -> usize
     ensures { λ r. ⌜ r ≡ firstAt (now (s .entry)) ⌝ }
 {
-    2 + u16_at(s, 0)
+    LENGTH + u16_at(s, 0)
 }
 
 // What is wrong with the record: 15, 16, 17, 10, or 0.

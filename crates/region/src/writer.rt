@@ -5,14 +5,12 @@ ghost use Rattle.cube.specs.Lay.{put};
 ghost use Rattle.region.specs.Writing.{recordLen, putFront, putRecord};
 use super::limits::DIFFERENCE_KIND;
 use super::limits::FRONT;
+use super::limits::LENGTH;
 use super::limits::MOST_CUTS;
 use super::limits::WIDTH_KIND;
 use super::limits::WIDTH_LENGTH;
 use cube::WIDEST_CUBE;
 use cube::put;
-
-// The bytes of a record's length, which it does not count.
-const LENGTH: usize = 2;
 
 // Puts a kind 1 record over the front of out, if it fits there.
 pub fn put_width(out: &mut [u8], w: usize)

@@ -6,14 +6,14 @@ use lib.ListN.{length}
 use borrow.Author.Needs.{needs}
 use Rattle.cube.proofs.Wholes.{row-room}
 use Rattle.cube.specs.Whole.{wholesAt}
-use Rattle.algebra.proofs.Taking.{Goes, row-kept, row-omitted, row-taken, kept-most, row-fits}
+use Rattle.algebra.proofs.Taking.{TakesOn, row-kept, row-omitted, row-taken, kept-most, row-fits}
 use Rattle.algebra.proofs.tidying.take_cuts.Statement.{statement}
 use Rattle.algebra.proofs.tidying.take_cuts.Tie as tie
 
 abbrev Inv-loop : tie.InvT-loop
 Inv-loop base s at n buf₀ kept some₀ next₀ left₀ buf some next left =
     (length buf ≡ length buf₀) × (next + left * length base ≤ length s) × (some + left ≤ kept + n) × (left ≤ n)
-    × Goes base buf₀ kept (wholesAt (length base) s at n) buf some (wholesAt (length base) s next left)
+    × TakesOn base buf₀ kept (wholesAt (length base) s at n) buf some (wholesAt (length base) s next left)
 
 abbrev μ-loop : tie.MeasureT-loop
 μ-loop base s at n buf₀ kept some₀ next₀ left₀ buf some next left = left
