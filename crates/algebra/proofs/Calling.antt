@@ -49,7 +49,8 @@ module _ (w : ℕ) (s t : List ℕ) (r : Answer) (e : r ≡ outcome (twoRecords 
   unfolding diff-intersect
   diff-intersect-told room =
       whole-written w _ _ room (intersect-shown w (record-runs one) (record-runs other))
-      ∙ ap (λ (p : Region). outcome (writingRegion w (tidyRegion p) room)) (append-nil _ ∙ append-nil (intersection (differenceAt w s 0) (differenceAt w t 0)))
+      ∙ ap (λ (p : Region). outcome (writingRegion w (tidyRegion p) room))
+      (append-nil _ ∙ append-nil (intersection (differenceAt w s 0) (differenceAt w t 0)))
       ∙ two-passed w s t r e _ z
 
   pub diff-less-stand : (w ≤ widest) × Stand (Less (frontAt t 0 .base)) (cubeLen w) s 0 t (frontAt t 0 .base)

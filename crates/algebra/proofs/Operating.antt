@@ -44,7 +44,8 @@ each-one [] = refl
 each-one (d ∷ r) = ap (λ (z : Region). d ∷ z) (each-one r)
 
 -- a piece, or none
-piece-or : (b : Bool) (c : Cube) (cuts : List Cube) → tidyRegion (map (λ x. less x cuts) (cond b (c ∷ []) [])) ≡ tidyRegion (cond b (less c cuts ∷ []) [])
+piece-or : (b : Bool) (c : Cube) (cuts : List Cube)
+    → tidyRegion (map (λ x. less x cuts) (cond b (c ∷ []) [])) ≡ tidyRegion (cond b (less c cuts ∷ []) [])
 piece-or true c cuts = refl
 piece-or false c cuts = refl
 

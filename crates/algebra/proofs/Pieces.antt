@@ -88,7 +88,8 @@ module _ (q : ℕ) (s : List ℕ) (f : Front) (t : List ℕ) (p : Stop) (base : 
     unfolding held onward
     piece-covered e2 = record { tidied = sym (rw e2 at both); few = omega arith }
 
-    pub piece-kept : (i : ℕ) → m2 ≡ Kept i → n ≤ mostCuts → p .cuts ≤ mostCuts → (new : List ℕ) → q ≤ length back → new ≡ put back 0 base
+    pub piece-kept : (i : ℕ) → m2 ≡ Kept i → n ≤ mostCuts → p .cuts ≤ mostCuts → (new : List ℕ) → q ≤ length back
+        → new ≡ put back 0 base
         → MadeOf q s f t p new (Kept i)
     unfolding held onward wholeAt cubeOf tidyFrom
     piece-kept i e2 h k new room is-put =

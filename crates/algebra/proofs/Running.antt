@@ -99,7 +99,8 @@ pub record Going (o : Operation) (q : ℕ) (s : List ℕ) (a : ℕ) (t : List �
   pub counted : Counted q done old out sum
 
 -- records and stops within their operands
-pub records-turn : (q : ℕ) (s : List ℕ) (a : ℕ) → a < length s → RecordsStand q s a → Stands q s (frontAt s a) × RecordsStand q s (frontAt s a .next)
+pub records-turn : (q : ℕ) (s : List ℕ) (a : ℕ) → a < length s → RecordsStand q s a
+    → Stands q s (frontAt s a) × RecordsStand q s (frontAt s a .next)
 records-turn q s a h f = rw (ahead-next s a h) at f
 
 pub stops-turn : (o : Operation) (q : ℕ) (t : List ℕ) (y : ℕ) → 1 ≤ q → y < length t → StopsStand o q t y

@@ -111,7 +111,8 @@ module _ (w : ℕ) where
   shown : (p r : Region) → p ≡ map (padDifference (unused w)) r → All (Good w) r → ShowsRegion w (tidyRegion p) (tidyRegion r)
   shown p r e g = record { same = ap tidyRegion e ∙ tidy-padded w (unused w) r g; good = tidyRegion-keeps w r g }
 
-  pub tidy-shown : {s : List ℕ} {a : ℕ} {r : Region} (t : List ℕ) → Runs w s a r → 0 < length t → ShowsRegion w (total Tidy (cubeLen w) s a t 0) (tidyRegion r)
+  pub tidy-shown : {s : List ℕ} {a : ℕ} {r : Region} (t : List ℕ) → Runs w s a r → 0 < length t
+      → ShowsRegion w (total Tidy (cubeLen w) s a t 0) (tidyRegion r)
   tidy-shown {s} {a} {r} t x h = rw (tidy-total (cubeLen w) s t a h) (shown _ r (x .whole) (x .good))
 
   pub intersect-shown : {s t : List ℕ} {a x : ℕ} {r p : Region} → Runs w s a r → Runs w t x p

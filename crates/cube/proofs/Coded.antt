@@ -82,7 +82,8 @@ codes-set (b ∷ bs) (suc (suc (suc zero))) v h k = four-codes (codes bs) (place
 codes-set (b ∷ bs) (suc (suc (suc (suc p)))) v h k =
     let q : suc (suc (suc (suc p))) / 4 ≡ suc (p / 4) = omega arith in
     let r : suc (suc (suc (suc p))) % 4 ≡ p % 4 = omega arith in
-    rw (q, r) (ap (λ (l : Cube). codeOf (b / 64 % 4) ∷ codeOf (b / 16 % 4) ∷ codeOf (b / 4 % 4) ∷ codeOf (b % 4) ∷ l) (codes-set bs p v (omega arith) k))
+    rw (q, r)
+    (ap (λ (l : Cube). codeOf (b / 64 % 4) ∷ codeOf (b / 16 % 4) ∷ codeOf (b / 4 % 4) ∷ codeOf (b % 4) ∷ l) (codes-set bs p v (omega arith) k))
 
 pub bytes-are : (w : ℕ) (b : List ℕ) (c : Cube) → Bytes b → length c ≡ w → codes b ≡ pad (unused w) c → b ≡ writeCube c
 bytes-are w b c h l e =

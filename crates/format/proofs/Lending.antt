@@ -111,7 +111,8 @@ module _ (n used : ℕ) (bs : List ℕ) (r : Answer) (e : r ≡ outcome (bitsTes
 
 -- a file, of which the reader gives the number and the offset apart
 module _ (s : List ℕ) (o : ℕ) (k : Rows Told) where
-  pub file-refused : (f at : ℕ) → f ≡ faultNumber (readFile s) → at ≡ faultOffset (readFile s) → (f ≡ 0 → ⊥) → silent (fault f o at) ≡ outcome (lentFile s o k)
+  pub file-refused : (f at : ℕ) → f ≡ faultNumber (readFile s) → at ≡ faultOffset (readFile s) → (f ≡ 0 → ⊥)
+      → silent (fault f o at) ≡ outcome (lentFile s o k)
   file-refused f at d e n = rw (d, e) (reached 0 (lentFile s o k) (λ z. n (d ∙ z)))
 
   pub file-passed : faultNumber (readFile s) ≡ 0 → outcome k ≡ outcome (lentFile s o k)

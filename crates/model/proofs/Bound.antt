@@ -93,7 +93,8 @@ part-at-most b =
     rw (wider-shares s c m) (omega arith))
     (λ c cs p m ih s. passed c cs p s m (ih s) (shares b c) refl)
   where
-    passed : (c : Cube) (cs : List Cube) (p : Cube) → Part p b → shares p c ≡ false → visit cs p .pieces ≤ ceilingFrom b cs → (k : Bool) → shares b c ≡ k
+    passed : (c : Cube) (cs : List Cube) (p : Cube) → Part p b → shares p c ≡ false → visit cs p .pieces ≤ ceilingFrom b cs → (k : Bool)
+        → shares b c ≡ k
         → visit cs p .pieces ≤ cond k (1 + frees b c * ceilingFrom b cs) (ceilingFrom b cs)
     passed c cs p s m ih true n =
         let t = mul-le-mul-right (ceilingFrom b cs) (clash-frees s c m n) in

@@ -45,7 +45,8 @@ module _ (w u : ℕ) where
       each-padded (λ a. each (intersection a) (P s)) (λ a. each (intersection a) s)
       (λ a ga. each-padded (intersection (padDifference u a)) (intersection a) (λ b gb. intersection-padded a b ga gb) s gs) r gr
 
-  restored-padded : (a : Difference) → Good w a → (cs : List Cube) → All (Sized w) cs → restored (padDifference u a) (map (pad u) cs) ≡ P (restored a cs)
+  restored-padded : (a : Difference) → Good w a → (cs : List Cube) → All (Sized w) cs
+      → restored (padDifference u a) (map (pad u) cs) ≡ P (restored a cs)
   unfolding restored
   restored-padded a g [] l = refl
   restored-padded a g (c ∷ cs) l =
@@ -69,5 +70,6 @@ module _ (w u : ℕ) where
   region-padded : (r : Region) → All (Good w) r → walkRegion (P r) ≡ padFound u (walkRegion r)
   region-padded = in-turn-pad u (Good w) (padDifference u) walk walk walk-padded
 
-  pub inclusion-padded : (a b : Difference) → Good w a → Good w b → walkInclusion (padDifference u a) (padDifference u b) ≡ padFound u (walkInclusion a b)
+  pub inclusion-padded : (a b : Difference) → Good w a → Good w b
+      → walkInclusion (padDifference u a) (padDifference u b) ≡ padFound u (walkInclusion a b)
   inclusion-padded a b g h = ap walkRegion (subtraction-padded a b g h) ∙ region-padded (subtraction a b) (good-subtraction w a b g h)

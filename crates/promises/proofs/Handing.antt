@@ -122,7 +122,8 @@ module _ (s : List ℕ) (place : ℕ) where
   unfolding read-on
   read-on-last w e = sym (reached 1 _ (w, e))
 
-  pub read-on-refused : widthFault s ≡ 0 → (startOf s place ≡ length s → ⊥) → (differenceFault false (widthOf s) 0 s (startOf s place) ≡ 0 → ⊥)
+  pub read-on-refused : widthFault s ≡ 0 → (startOf s place ≡ length s → ⊥)
+      → (differenceFault false (widthOf s) 0 s (startOf s place) ≡ 0 → ⊥)
       → read-on s place ≡ stay (fault (differenceFault false (widthOf s) 0 s (startOf s place)) 1 (startOf s place)) place
   unfolding read-on
   read-on-refused w e f = sym (reached 2 _ (w, (e, f)))

@@ -44,7 +44,8 @@ module _ (s : List ℕ) (at : ℕ) where
       let size : f .length ≡ getD s at 0 + 256 * getD s (at + 1) 0 = omega (arith, first, behind 1) in
       record { length = size; kind = kind; cuts = c ∙ behind 4; base = b; next = omega arith }
 
-  pub front-end : length s ≤ at → (f : Front) → f .length ≡ 0 → f .kind ≡ 0 → f .cuts ≡ 0 → f .base ≡ length s → f .next ≡ length s → FrontIs s at f
+  pub front-end : length s ≤ at → (f : Front) → f .length ≡ 0 → f .kind ≡ 0 → f .cuts ≡ 0 → f .base ≡ length s → f .next ≡ length s
+      → FrontIs s at f
   unfolding countAt baseAt frontLen
   front-end h f l k c b n =
       let none : (i : ℕ) → at ≤ i → getD s i 0 ≡ 0 = λ i m. List·getD-eq-default s 0 {n = i} (omega arith) in

@@ -53,7 +53,8 @@ module _ (s : List ℕ) where
   of-refused f at q =
       record { number = sym (ap faultNumber q); offset = sym (ap faultOffset q); width = refl; count = ap length (sym (ap offsets q)) }
 
-  of-whole : (os : List ℕ) (n : ℕ) → length os ≡ n → readFile s ≡ whole os → FileIs s (record { number = 0; offset = 0; width = widthOf s; count = n })
+  of-whole : (os : List ℕ) (n : ℕ) → length os ≡ n → readFile s ≡ whole os
+      → FileIs s (record { number = 0; offset = 0; width = widthOf s; count = n })
   of-whole os n e q =
       record { number = sym (ap faultNumber q); offset = sym (ap faultOffset q); width = refl; count = sym e ∙ ap length (sym (ap offsets q)) }
 
@@ -83,7 +84,8 @@ module _ {s : List ℕ} {at n : ℕ} (r : Reached s at n) where
   whole-here : length s ≤ at → readFile s ≡ whole (r .passed)
   whole-here l = r .read ∙ ap (after (r .passed)) (from-end (widthOf s) s at n (length s - n) l) ∙ ap whole (append-nil (r .passed))
 
-  pub record-refused : (f : ℕ) → at < length s → f ≡ differenceFault false (widthOf s) n s at → (f ≡ 0 → ⊥) → FileIs s (refusal f at (widthOf s))
+  pub record-refused : (f : ℕ) → at < length s → f ≡ differenceFault false (widthOf s) n s at → (f ≡ 0 → ⊥)
+      → FileIs s (refusal f at (widthOf s))
   record-refused f l e z = of-refused s f at (refused-here f l e z)
 
   pub ended : length s ≤ at → FileIs s (record { number = 0; offset = 0; width = widthOf s; count = n })
@@ -119,7 +121,8 @@ module _ {s h : List ℕ} {at n : ℕ} {held : Bool} (a : Asking s h at n held) 
         asked = e ∙ ap (λ (b : Bool). b || inRecord (widthOf s) h s at) (a .asked) ∙ sym (any-append (widthOf s) h s (a .reached .passed) at);
       }
 
-  pub asked-refused : (f : ℕ) → at < length s → f ≡ differenceFault false (widthOf s) n s at → (f ≡ 0 → ⊥) → AskedIs s h (unasked f at (widthOf s))
+  pub asked-refused : (f : ℕ) → at < length s → f ≡ differenceFault false (widthOf s) n s at → (f ≡ 0 → ⊥)
+      → AskedIs s h (unasked f at (widthOf s))
   asked-refused f l e z = none-asked s h f at (refused-here (a .reached) f l e z)
 
   pub asked-ended : length s ≤ at → AskedIs s h (record { file = record { number = 0; offset = 0; width = widthOf s; count = n }; held = held })

@@ -85,7 +85,8 @@ uncounted w n s at z =
     (ltb mostDifferences (n + 1)) _ z
 
 -- an accepted file
-listed-steps : {s : List ℕ} {at n : ℕ} {os : List ℕ} → widthFault s ≡ 0 → Listed (widthOf s) s at n os → (p : ℕ) → startOf s p ≡ at → at ≤ length s
+listed-steps : {s : List ℕ} {at n : ℕ} {os : List ℕ} → widthFault s ≡ 0 → Listed (widthOf s) s at n os → (p : ℕ) → startOf s p ≡ at
+    → at ≤ length s
     → (m : ℕ) → answers (length os + m) s p ≡ map placed os ++ replicate m (said 2)
 listed-steps {s} f (ended {at} h) p e l m = rw zero-add (stuck s p (said 2) (on-end s p at f e (omega arith)) m)
 listed-steps {s} f (listed {at} {os = os} r rest) p e l m =
@@ -157,7 +158,8 @@ module _ (s : List ℕ) (ok : widthFault s ≡ 0) where
     abbrev Stops-at : ℕ → ℕ → ℕ → Type 0
     Stops-at at n p = differencesFrom (length s - n) (widthOf s) s at n ≡ refused f o → Stopped s f at o p
 
-    stopped-turn : (at n p : ℕ) (a b : Bool) → leb (length s) at ≡ a → eqb (differenceFault false (widthOf s) n s at) 0 ≡ b → n ≤ at → startOf s p ≡ at
+    stopped-turn : (at n p : ℕ) (a b : Bool) → leb (length s) at ≡ a → eqb (differenceFault false (widthOf s) n s at) 0 ≡ b → n ≤ at
+        → startOf s p ≡ at
         → Stops-at (nextAt s at) (n + 1) (nextAt s at) → Stops-at at n p
     stopped-turn at n p true b x y k e later r = absurd (stops (whole []) (sym (from-end (widthOf s) s at n (length s - n) (leb-true (length s) at x)) ∙ r))
     stopped-turn at n p false true x y k e later r =

@@ -95,7 +95,8 @@ module _ (k q : ℕ) (few : k ≤ mostCuts) (short : q ≤ widestCube) where
       record-short h = sym (put-long old 0 (recordBytes cubes k q) (omega (arith, size))) ∙ whole
 
       module _ (room : frontLen k + (k + 1) * q ≤ length old) where
-        pub record-done : (mid new : List ℕ) → mid ≡ putFront old k q → new ≡ put mid (frontLen k) (take ((k + 1) * q - 0) cubes) → new ≡ putRecord old cubes k q
+        pub record-done : (mid new : List ℕ) → mid ≡ putFront old k q → new ≡ put mid (frontLen k) (take ((k + 1) * q - 0) cubes)
+            → new ≡ putRecord old cubes k q
         unfolding frontLen frontBytes
         record-done mid new e f =
             let part = take ((k + 1) * q) cubes in

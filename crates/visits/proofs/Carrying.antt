@@ -100,7 +100,8 @@ words-hold ws P l h =
 pub unloaded : (ws bytes : List ℕ) → length bytes ≡ 80 → ((b : ℕ) → b < 80 → getD bytes b 0 ≡ getD ws (b / 8) 0 / 2 ^ (56 - 8 * (b % 8)) % 256)
     → codes bytes ≡ cubeOfWords ws
 unfolding numberIn
-unloaded ws bytes l h = sym (words-ext ws (codes bytes) (omega (arith, length-codes bytes)) (λ i k. sym (code-at bytes i (omega arith) ∙ ap codeOf (one i k))))
+unloaded ws bytes l h =
+    sym (words-ext ws (codes bytes) (omega (arith, length-codes bytes)) (λ i k. sym (code-at bytes i (omega arith) ∙ ap codeOf (one i k))))
   where
     one : (i : ℕ) → i < 320 → getD bytes (i / 4) 0 / 4 ^ (3 - i % 4) % 4 ≡ numberIn ws i
     one i k =
@@ -118,7 +119,8 @@ byte-out ws bytes b l h f k i =
     ⊎-elim (λ (e : k ≡ b). rw (e, getD-set-same bytes b (bitAnd x 255) 0 (omega arith)) (and-mask x 8)) (λ (e : k ≡ b → ⊥). getD-set-other bytes b k (bitAnd x 255) 0 e ∙ f k (omega arith)) (same-or-not k b)
 
 -- one word, and one row, more
-pub word-more : (P ws : List ℕ) (w x : ℕ) → w < length ws → HoldsBytes P 8 (8 * w) x → ((v : ℕ) → v < w → HoldsBytes P 8 (8 * v) (getD ws v 0)) → (v : ℕ)
+pub word-more : (P ws : List ℕ) (w x : ℕ) → w < length ws → HoldsBytes P 8 (8 * w) x → ((v : ℕ) → v < w → HoldsBytes P 8 (8 * v) (getD ws v 0))
+    → (v : ℕ)
     → v < w + 1 → HoldsBytes P 8 (8 * v) (getD (set ws w x) v 0)
 word-more P ws w x l h f v i =
     ⊎-elim (λ (e : v ≡ w). rw (e, getD-set-same ws w x 0 l) h) (λ (e : v ≡ w → ⊥). rw (getD-set-other ws w v x 0 e) (f v (omega arith))) (same-or-not v w)

@@ -131,7 +131,8 @@ pub record EnteredAll (cuts : List (List ℕ)) (m : ℕ) (rows : List ℕ) : Typ
   pub small : (k : ℕ) → k < 640 → getD rows k 0 < 2 ^ m
   pub right : Against cuts m rows
 
-pub entered-more : (cuts : List (List ℕ)) (m : ℕ) (rows after : List ℕ) (one : ℕ) → one ≡ 2 ^ m → length after ≡ 640 → Entered rows (rowCube cuts m) one after
+pub entered-more : (cuts : List (List ℕ)) (m : ℕ) (rows after : List ℕ) (one : ℕ) → one ≡ 2 ^ m → length after ≡ 640
+    → Entered rows (rowCube cuts m) one after
     → EnteredAll cuts m rows
     → EnteredAll cuts (m + 1) after
 entered-more cuts m rows after one eo l en e = record { long = l; small = small; right = right }

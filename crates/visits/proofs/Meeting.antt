@@ -90,7 +90,8 @@ bit-true : (b : Bool) → bit b ≡ 1 → b ≡ true
 bit-true true e = refl
 bit-true false e = absurd (omega arith)
 
-pub alive-meets : (cuts : List (List ℕ)) (n m : ℕ) (p : Cube) (x : ℕ) → Alive cuts n p x → 2 ^ m ≤ x → x < 2 ^ suc m → m < n → shares p (rowCube cuts m) ≡ true
+pub alive-meets : (cuts : List (List ℕ)) (n m : ℕ) (p : Cube) (x : ℕ) → Alive cuts n p x → 2 ^ m ≤ x → x < 2 ^ suc m → m < n
+    → shares p (rowCube cuts m) ≡ true
 alive-meets cuts n m p x a o u l =
     let e : x ≡ 2 ^ m + (x - 2 ^ m) = omega arith in
     bit-true (shares p (rowCube cuts m)) (sym (a .1 m l) ∙ rw e (digit-top m (x - 2 ^ m) (alive-fewer cuts n m p x a o u l .0)))
@@ -101,7 +102,8 @@ alive-top n m x h o = ⊎-elim (λ l. l) (λ (l : n ≤ m). absurd (omega (arith
 
 -- a visit with the cuts of the rows that are left
 module _ (cuts : List (List ℕ)) (n : ℕ) (p : Cube) where
-  pub rows-met : shares p (rowCube cuts n) ≡ true → visit (cutsBelow cuts (suc n)) p ≡ visited (inTurn (visit (cutsBelow cuts n)) (children p (rowCube cuts n)))
+  pub rows-met : shares p (rowCube cuts n) ≡ true
+      → visit (cutsBelow cuts (suc n)) p ≡ visited (inTurn (visit (cutsBelow cuts n)) (children p (rowCube cuts n)))
   unfolding cutsBelow
   rows-met = visit-met (rowCube cuts n) (cutsBelow cuts n) p
 

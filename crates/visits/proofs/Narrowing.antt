@@ -64,7 +64,8 @@ pub record Opened (near cut : List ℕ) (i y : ℕ) : Type 0 where
   pub fixed : codeOf y ≡ getD (cubeOfWords cut) i none
   pub turned : codeOf (3 - y) ≡ other (codeOf y)
 
-pub opened : (near cut : List ℕ) (i y : ℕ) → i ≡ firstOpen (cubeOfWords near) (cubeOfWords cut) → i < 320 → y ≡ numberIn cut i → Opened near cut i y
+pub opened : (near cut : List ℕ) (i y : ℕ) → i ≡ firstOpen (cubeOfWords near) (cubeOfWords cut) → i < 320 → y ≡ numberIn cut i
+    → Opened near cut i y
 unfolding numberIn
 opened near cut i y f h e =
     let o = first-opens (cubeOfWords near) (cubeOfWords cut) (words-length near ∙ sym (words-length cut)) (omega (arith, words-length near)) in
@@ -89,13 +90,15 @@ module _ (near : List ℕ) (i v word : ℕ) (l : length near ≡ 10) (h : i < 32
       → Against cuts n against → r ≡ bitXor met (bitAnd met (getD against (2 * i + (v - 1)) 0)) → Alive cuts n (cubeOfWords (set near (i / 32) word)) r
   took-alive cuts n against met r o a b m t e =
       let s : suc (v - 1) ≡ v = omega arith in
-      alive-child cuts n (cubeOfWords near) (cubeOfWords (set near (i / 32) word)) i (codeOf v) met (getD against (2 * i + (v - 1)) 0) r m (rw s at (t i (v - 1) h (omega arith))) (value-number v a b) o took-cube e
+      alive-child cuts n (cubeOfWords near) (cubeOfWords (set near (i / 32) word)) i (codeOf v) met (getD against (2 * i + (v - 1)) 0) r m
+      (rw s at (t i (v - 1) h (omega arith))) (value-number v a b) o took-cube e
 
 pub later-first : (near cut : List ℕ) (i : ℕ) (y : Code) (p : Cube) → i ≡ firstOpen (cubeOfWords near) (cubeOfWords cut) → i < 320
     → y ≡ getD (cubeOfWords cut) i none → p ≡ set (cubeOfWords near) i y
     → i < firstOpen p (cubeOfWords cut)
 later-first near cut i y p f h e c =
-    rw (c, e) (rw (← f) at (first-after (cubeOfWords near) (cubeOfWords cut) (words-length near ∙ sym (words-length cut)) (omega (arith, words-length near))))
+    rw (c, e)
+    (rw (← f) at (first-after (cubeOfWords near) (cubeOfWords cut) (words-length near ∙ sym (words-length cut)) (omega (arith, words-length near))))
 
 pub begun : (cuts : List (List ℕ)) (n : ℕ) (p : Cube) (a b : Allowance) → 0 < a .left → b ≡ after a 1 → shares p (rowCube cuts n) ≡ true
     → settle a (visit (cutsBelow cuts (suc n)) p) ≡ leftFrom (visit (cutsBelow cuts n)) (rowCube cuts n) b p

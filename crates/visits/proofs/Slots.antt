@@ -159,10 +159,12 @@ second slot i =
 either-words : (x y z k : ℕ) → bitOr x y ≡ z → eitherCode (codeOf (placeAt x k)) (codeOf (placeAt y k)) ≡ codeOf (placeAt z k)
 either-words x y z k e = rw (← e) (sym (ap codeOf (place-or k x y) ∙ code-or (placeAt x k) (placeAt y k) (mod-lt _ (lit< tt)) (mod-lt _ (lit< tt))))
 
-pub like-words : (slot ws : List ℕ) → ((w : ℕ) → w < 10 → bitOr (getD ws w 0) (getD slot (10 + w) 0) ≡ getD slot w 0) → LikeSlot slot (cubeOfWords ws)
+pub like-words : (slot ws : List ℕ) → ((w : ℕ) → w < 10 → bitOr (getD ws w 0) (getD slot (10 + w) 0) ≡ getD slot w 0)
+    → LikeSlot slot (cubeOfWords ws)
 unfolding numberIn
 like-words slot ws h i l =
-    rw (words-at ws i l, second slot i) (either-words (getD ws (i / 32) 0) (getD slot (10 + i / 32) 0) (getD slot (i / 32) 0) (i % 32) (h (i / 32) (omega arith)))
+    rw (words-at ws i l, second slot i)
+    (either-words (getD ws (i / 32) 0) (getD slot (10 + i / 32) 0) (getD slot (i / 32) 0) (i % 32) (h (i / 32) (omega arith)))
 
 pub recalls-right : (slots : List (List ℕ)) (ws : List ℕ) (alive e : ℕ) → e < length slots → getD (getD slots e []) 20 0 ≡ alive
     → ((w : ℕ) → w < 10 → bitOr (getD ws w 0) (getD (getD slots e []) (10 + w) 0) ≡ getD (getD slots e []) w 0) → Recalls slots ws alive (getD (getD slots e []) 21 0)
@@ -309,7 +311,8 @@ common-turn cuts alive x y t m m′ u o ey e f j h d =
         (below-or j t))
         (same-or-not j t)
 
-pub common-end : (cuts : List (List ℕ)) (alive x : ℕ) (m : List ℕ) → x ≡ 0 → ((j : ℕ) → j < 64 → digit j alive ≡ 1 → (digit j x ≡ 1) ⊎ Lies m (rowCube cuts j))
+pub common-end : (cuts : List (List ℕ)) (alive x : ℕ) (m : List ℕ) → x ≡ 0
+    → ((j : ℕ) → j < 64 → digit j alive ≡ 1 → (digit j x ≡ 1) ⊎ Lies m (rowCube cuts j))
     → Common cuts alive m
 common-end cuts alive x m z f j h d =
     ⊎-elim (λ (k : digit j x ≡ 1). absurd (omega (arith, (rw (z, div-eq-of-lt (pow-pos j)) at k)))) (λ l. l) (f j h d)

@@ -83,7 +83,8 @@ module _ (q : ℕ) (s : List ℕ) (at left : ℕ) (cuts : List (List ℕ)) (l : 
     loaded-alive n x h m = (m .0, λ j k. let e = last-row n j h k in m .1 j k ∙ rw (e, row-shares j (omega arith)))
 
     -- the cut before the last 64, where there is one
-    pub first-met : (n : ℕ) (b : Bool) → n ≡ min left 64 → left ≤ 65 → First left (shares p (wholeAt q s at)) b → b ≡ true → shares P (rowCube cuts n) ≡ true
+    pub first-met : (n : ℕ) (b : Bool) → n ≡ min left 64 → left ≤ 65 → First left (shares p (wholeAt q s at)) b → b ≡ true
+        → shares P (rowCube cuts n) ≡ true
     first-met n b en h f e =
         ⊎-elim (λ (k : left < 65). absurd (true≢false (sym e ∙ f .0 k)))
         (λ (k : 65 ≤ left).

@@ -64,7 +64,8 @@ pub words-given : (ws : List ℕ) (i v r : ℕ) → length ws ≡ 10 → i < 320
     → cubeOfWords (set ws (i / 32) r) ≡ set (cubeOfWords ws) i (codeOf v)
 unfolding numberIn
 words-given ws i v r l h g =
-    words-ext (set ws (i / 32) r) (set (cubeOfWords ws) i (codeOf v)) (length-set (cubeOfWords ws) i (codeOf v) ∙ words-length ws) (λ j k. ⊎-elim (same j k) (λ (n : j ≡ i → ⊥). elsewhere j k n) (same-or-not j i))
+    words-ext (set ws (i / 32) r) (set (cubeOfWords ws) i (codeOf v)) (length-set (cubeOfWords ws) i (codeOf v) ∙ words-length ws)
+    (λ j k. ⊎-elim (same j k) (λ (n : j ≡ i → ⊥). elsewhere j k n) (same-or-not j i))
   where
     within : i / 32 < length ws
     within = omega arith
@@ -149,7 +150,8 @@ module _ (ws cs : List ℕ) (w : ℕ) (l : w < 10) (c : 32 * w ≤ firstOpen (cu
   even : length (cubeOfWords ws) ≡ length (cubeOfWords cs)
   even = words-length ws ∙ sym (words-length cs)
 
-  in-word : (k : ℕ) → k < 32 → opens (getD (cubeOfWords ws) (32 * w + k) none) (getD (cubeOfWords cs) (32 * w + k) none) ≡ opensAt (getD ws w 0) (getD cs w 0) k
+  in-word : (k : ℕ) → k < 32
+      → opens (getD (cubeOfWords ws) (32 * w + k) none) (getD (cubeOfWords cs) (32 * w + k) none) ≡ opensAt (getD ws w 0) (getD cs w 0) k
   unfolding numberIn
   in-word k h =
       let q : (32 * w + k) / 32 ≡ w = omega arith in
@@ -176,5 +178,6 @@ module _ (ws cs : List ℕ) (w : ℕ) (l : w < 10) (c : 32 * w ≤ firstOpen (cu
         absurd (true≢false (sym o ∙ (rw (← e) at (in-word (i - 32 * w) (omega arith))) ∙ marks-none (getD ws w 0) (getD cs w 0) t (i - 32 * w) m z (omega arith))))
         (λ b. b) (below-or (firstOpen (cubeOfWords ws) (cubeOfWords cs)) (32 * (w + 1)))
 
-pub open-ended : (ws cs : List ℕ) (w : ℕ) → 10 ≤ w → 32 * w ≤ firstOpen (cubeOfWords ws) (cubeOfWords cs) → 320 ≡ firstOpen (cubeOfWords ws) (cubeOfWords cs)
+pub open-ended : (ws cs : List ℕ) (w : ℕ) → 10 ≤ w → 32 * w ≤ firstOpen (cubeOfWords ws) (cubeOfWords cs)
+    → 320 ≡ firstOpen (cubeOfWords ws) (cubeOfWords cs)
 open-ended ws cs w h c = omega (arith, first-most (cubeOfWords ws) (cubeOfWords cs), words-length ws)

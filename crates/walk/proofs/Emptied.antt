@@ -80,7 +80,8 @@ module _ (s : List ℕ) (n room : ℕ) (clean : faultNumber (readFile s) ≡ 0) 
 
 -- what is left to walk from an offset on
 module _ (s : List ℕ) where
-  pub file-begun : File s → (a : Allowance) → settle a (wholeWalk (widthOf s) (regionIn s)) ≡ settle a (wholeWalk (widthOf s) (regionAhead (widthOf s) s (firstAt s)))
+  pub file-begun : File s → (a : Allowance)
+      → settle a (wholeWalk (widthOf s) (regionIn s)) ≡ settle a (wholeWalk (widthOf s) (regionAhead (widthOf s) s (firstAt s)))
   file-begun f a = ap (λ (r : Region). settle a (wholeWalk (widthOf s) r)) (file-region f)
 
 module _ (w : ℕ) (s : List ℕ) (at : ℕ) (a : Allowance) where

@@ -71,7 +71,9 @@ returns-4 c =
     let room : length (x .a .now) ≤ length (x .out .now) = i .before .before .if3 .left in
     let e = meet-written (x .w) (x .a .now) (x .b .now) _ (s .before .before .pair-refusal .ensures) (s .if1 .left) (bytes s) (sym (l .before .meets .ensures) ∙ not-false _ (l .if2 .left)) (length (x .out .now)) room in (
       c .wrote .ensures ∙ ap (λ (t : Told). t .answer) e,
-      i .meet-into .ensures ∙ into-over (x .a .now) (x .b .now) (x .out .now) (one-size (x .w) (x .a .now) (x .b .now) _ (s .before .before .pair-refusal .ensures) (s .if1 .left)) room
+      i .meet-into .ensures
+          ∙ into-over (x .a .now) (x .b .now) (x .out .now)
+          (one-size (x .w) (x .a .now) (x .b .now) _ (s .before .before .pair-refusal .ensures) (s .if1 .left)) room
           ∙ ap (λ (t : Told). over (x .out .now) (t .bytes)) e,
     )
 

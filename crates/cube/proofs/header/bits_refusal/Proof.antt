@@ -23,7 +23,8 @@ said-requires-2 c κs = search needs
 returns-2 : tie.Need-returns-2
 returns-2 c =
     let header-len = c .before .before .before .before .header-len in
-    c .said2 .ensures ∙ reached 1 _ (c .before .before .before .if1 .left ∙ header-len .ensures, sym (c .before .before .bits-after .ensures) ∙ c .before .if2 .taken)
+    c .said2 .ensures
+    ∙ reached 1 _ (c .before .before .before .if1 .left ∙ header-len .ensures, sym (c .before .before .bits-after .ensures) ∙ c .before .if2 .taken)
 
 said-requires-3 : tie.Need-said-requires-3
 said-requires-3 c κs = search needs
@@ -31,7 +32,8 @@ said-requires-3 c κs = search needs
 returns-3 : tie.Need-returns-3
 returns-3 c =
     let header-len = c .before .before .before .before .header-len in
-    c .said3 .ensures ∙ reached 2 _ (c .before .before .before .if1 .left ∙ header-len .ensures, (sym (c .before .before .bits-after .ensures) ∙ c .before .if2 .left, tt))
+    c .said3 .ensures
+    ∙ reached 2 _ (c .before .before .before .if1 .left ∙ header-len .ensures, (sym (c .before .before .bits-after .ensures) ∙ c .before .if2 .left, tt))
 
 pub bits-refusal-spec : {M : Type 1} → statement M
 bits-refusal-spec =

@@ -46,7 +46,9 @@ refused-requires : tie.Need-refused-requires Inv-loop μ-loop
 refused-requires c κs = search needs
 
 returns : tie.Need-returns Inv-loop μ-loop
-returns c = rw (c .refused .ensures, c .before .before .before .width-of .ensures .0) (asked-width _ _ _ (c .before .before .width-fault .ensures) (c .before .if1 .taken))
+returns c =
+    rw (c .refused .ensures, c .before .before .before .width-of .ensures .0)
+    (asked-width _ _ _ (c .before .before .width-fault .ensures) (c .before .if1 .taken))
 
 cube-len-requires : tie.Need-cube-len-requires Inv-loop μ-loop
 cube-len-requires c κs = search needs
@@ -67,7 +69,8 @@ returns-2 : tie.Need-returns-2 Inv-loop μ-loop
 returns-2 c =
     let goes = c .before .before .before .before .loop-test in let loop = c .before .before .before .before .before .loop in
     let width-of = c .before .before .before .before .before .before .before .before .before .before .width-of in
-    rw (c .refused2 .ensures, width-of .ensures .0) (asked-refused (loop .inv) _ (goes .taken) (rw (width-of .ensures .0) at (c .before .before .before .read-record .ensures .number)) (c .before .if2 .taken))
+    rw (c .refused2 .ensures, width-of .ensures .0)
+    (asked-refused (loop .inv) _ (goes .taken) (rw (width-of .ensures .0) at (c .before .before .before .read-record .ensures .number)) (c .before .if2 .taken))
 
 found-requires : tie.Need-found-requires Inv-loop μ-loop
 found-requires c κs =

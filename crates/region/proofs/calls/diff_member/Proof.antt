@@ -42,7 +42,8 @@ slice-aggregate-in-difference : tie.Need-slice-aggregate-in-difference
 slice-aggregate-in-difference c = search needs
 
 in-difference-requires : tie.Need-in-difference-requires
-in-difference-requires c κs = rw (c .before .cube-len .ensures) (front-stands (accepted (c .before .before .before .before)) (c .before .before .front-at .ensures .0))
+in-difference-requires c κs =
+    rw (c .before .cube-len .ensures) (front-stands (accepted (c .before .before .before .before)) (c .before .before .front-at .ensures .0))
 
 told-requires : tie.Need-told-requires
 told-requires c κs = search needs
@@ -56,7 +57,8 @@ returns-2 c =
     let e = c .before .before .before .before .before .before in
     let i = front-at .ensures .0 in
     let held = rw (c .before .before .before .cube-len .ensures, front-base (accepted e) i, i .cuts) at (c .before .in-difference .ensures) in
-    c .told .ensures ∙ ap (λ (t : Told). t .answer) (diff-told (x .w) (x .s .now) (x .h .now) _ _ _ (one-refusal .ensures) (e .if1 .left) (spelled .ensures) held)
+    c .told .ensures
+    ∙ ap (λ (t : Told). t .answer) (diff-told (x .w) (x .s .now) (x .h .now) _ _ _ (one-refusal .ensures) (e .if1 .left) (spelled .ensures) held)
 
 pub diff-member-spec : {M : Type 1} → statement M
 diff-member-spec =

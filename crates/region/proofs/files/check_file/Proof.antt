@@ -46,7 +46,9 @@ refused-requires : tie.Need-refused-requires Inv-loop μ-loop
 refused-requires c κs = search needs
 
 returns : tie.Need-returns Inv-loop μ-loop
-returns c = rw (c .refused .ensures, c .before .before .before .width-of .ensures .0) (width-refused _ _ (c .before .before .width-fault .ensures) (c .before .if1 .taken))
+returns c =
+    rw (c .refused .ensures, c .before .before .before .width-of .ensures .0)
+    (width-refused _ _ (c .before .before .width-fault .ensures) (c .before .if1 .taken))
 
 first-at-requires : tie.Need-first-at-requires Inv-loop μ-loop
 first-at-requires c κs = search needs

@@ -53,7 +53,8 @@ returns-2 c =
     let b = c .before .before .before .before in
     let x = b .before .before .before .before .args in
     let part = tail (x .s .now) (x .at) in (
-      front-here _ _ _ (rw part at (b .u16-at .ensures .0)) (rw part at (c .before .before .before .u16-at2 .ensures .0)) (rw part at (c .before .before .byte-at .ensures .0))
+      front-here _ _ _ (rw part at (b .u16-at .ensures .0)) (rw part at (c .before .before .before .u16-at2 .ensures .0))
+          (rw part at (c .before .before .byte-at .ensures .0))
           (omega (arith, c .before .least .ensures)) (omega (arith, c .least2 .ensures)),
       b .u16-at .ensures .1,
     )

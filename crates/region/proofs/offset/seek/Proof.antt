@@ -23,7 +23,8 @@ loop-holds c = rw (c .first-at .ensures) refl
 returns : tie.Need-returns Inv-loop μ-loop
 returns c =
     let x = c .before .before .before .before .before .args in
-    sym (seek-here (x .s .now) (c .before .before .loop .at) (c .before .before .loop .left) _ (c .before .loop-test .taken) (c .if1 .taken)) ∙ c .before .before .loop .inv
+    sym (seek-here (x .s .now) (c .before .before .loop .at) (c .before .before .loop .left) _ (c .before .loop-test .taken) (c .if1 .taken))
+    ∙ c .before .before .loop .inv
 
 front-at-requires : tie.Need-front-at-requires Inv-loop μ-loop
 front-at-requires c κs = search needs

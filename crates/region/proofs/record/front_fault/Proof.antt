@@ -14,7 +14,8 @@ use Rattle.region.proofs.record.front_fault.Tie as tie
 
 -- where the numbers pass, every test of them fails
 clear : (c : tie.Else1) → let p = c .before .before .before .args in Past 0 (numberRows (p .alone) (p .w) (p .n) (p .s .now) (p .at))
-clear c = let p = c .before .before .before .args in numbers-clean (p .alone) (p .w) (p .n) (p .s .now) (p .at) _ (c .before .numbers-fault .ensures) (c .if1 .left)
+clear c =
+    let p = c .before .before .before .args in numbers-clean (p .alone) (p .w) (p .n) (p .s .now) (p .at) _ (c .before .numbers-fault .ensures) (c .if1 .left)
 
 -- so its cubes lie where its front says
 within : (c : tie.Else1)
@@ -32,7 +33,8 @@ returns : tie.Need-returns
 unfolding differenceFault
 returns c =
     let p = c .before .before .before .args in
-    numbers-refused (p .alone) (p .w) (p .n) (p .s .now) (p .at) _ (c .before .numbers-fault .ensures) (last (cubesFault (p .w) (p .s .now) (baseAt (p .s .now) (p .at)) (countAt (p .s .now) (p .at) + 1))) (c .if1 .taken)
+    numbers-refused (p .alone) (p .w) (p .n) (p .s .now) (p .at) _ (c .before .numbers-fault .ensures)
+    (last (cubesFault (p .w) (p .s .now) (baseAt (p .s .now) (p .at)) (countAt (p .s .now) (p .at) + 1))) (c .if1 .taken)
 
 add-cubes-fault : tie.Need-add-cubes-fault
 add-cubes-fault c = omega (arith, clear (c .before))
@@ -50,7 +52,8 @@ returns-2 c =
     let d = c .before .before in
     let e = given .0 .cuts in
     rw (base d, e) at (c .cubes-fault .ensures)
-    ∙ numbers-passed (x .alone) (x .w) (x .n) (x .s .now) (x .at) _ (d .before .numbers-fault .ensures) (last (cubesFault (x .w) (x .s .now) (baseAt (x .s .now) (x .at)) (countAt (x .s .now) (x .at) + 1))) (d .if1 .left)
+    ∙ numbers-passed (x .alone) (x .w) (x .n) (x .s .now) (x .at) _ (d .before .numbers-fault .ensures)
+    (last (cubesFault (x .w) (x .s .now) (baseAt (x .s .now) (x .at)) (countAt (x .s .now) (x .at) + 1))) (d .if1 .left)
 
 pub front-fault-spec : {M : Type 1} → statement M
 front-fault-spec =

@@ -34,7 +34,8 @@ frame-fault-requires c κs = search needs
 returns : tie.Need-returns
 returns c =
     let p = c .before .before .before .args in
-    frame-refused differenceKind (p .s .now) (p .at) _ (c .before .frame-fault .ensures) (rest 4 (numberRows (p .alone) (p .w) (p .n) (p .s .now) (p .at))) (c .if1 .taken)
+    frame-refused differenceKind (p .s .now) (p .at) _ (c .before .frame-fault .ensures) (rest 4 (numberRows (p .alone) (p .w) (p .n) (p .s .now) (p .at)))
+    (c .if1 .taken)
 
 returns-2 : tie.Need-returns-2
 returns-2 c = reached 4 _ (omega (arith, passed (c .before)))
@@ -61,7 +62,8 @@ add-if6-2 : tie.Need-add-if6-2
 add-if6-2 c = omega (arith, small (c .before))
 
 returns-6 : tie.Need-returns-6
-returns-6 c = reached 7 _ (omega (arith, passed (c .before .before .before .before .before .before .before .before .before .before), claimed (c .before .before .before)))
+returns-6 c =
+    reached 7 _ (omega (arith, passed (c .before .before .before .before .before .before .before .before .before .before), claimed (c .before .before .before)))
 
 returns-7 : tie.Need-returns-7
 returns-7 c =

@@ -42,7 +42,8 @@ returns-2 : tie.Need-returns-2
 unfolding read-on
 returns-2 c =
     let width-fault = c .before .before .before .before .width-fault in
-    rw (c .said .ensures) (reached 1 _ (sym (width-fault .ensures) ∙ c .before .before .before .if1 .left, sym (c .before .before .start-of .ensures) ∙ c .before .if2 .taken))
+    rw (c .said .ensures)
+    (reached 1 _ (sym (width-fault .ensures) ∙ c .before .before .before .if1 .left, sym (c .before .before .start-of .ensures) ∙ c .before .if2 .taken))
 
 width-of-requires : tie.Need-width-of-requires
 width-of-requires c κs = search needs

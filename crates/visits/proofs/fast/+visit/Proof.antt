@@ -138,14 +138,16 @@ at-covered : (t : ℕ) (c : visit-lts.At-match-keys1 (given t) (visit-at t) visi
     let at = gv .before .before .before .before in
     let g = at .before .before .before .before .before .before .before .before .before .args in
     (at .loop .have .spent ≤ j .if3 .v .allowance .spent)
-    × Finds (j .if3 .v .allowance .spent - at .loop .have .spent) (walked (cutsBelow (g .cuts .now) (g .n)) (cubeOfWords (set (at .loop .near) (at .loop .i / 32) (gv .given .result))))
+    × Finds (j .if3 .v .allowance .spent - at .loop .have .spent)
+    (walked (cutsBelow (g .cuts .now) (g .n)) (cubeOfWords (set (at .loop .near) (at .loop .i / 32) (gv .given .result))))
 at-covered t c = covered-finds _ _ _ (sym (at-reply t (c .before) .0) ∙ tells-covered (c .before .if3 .v) (is-covered _ (c .match .keys1)))
 
 -- the piece that agrees with the cut there
 at-agreed : (t : ℕ) (c : visit-lts.After-given2 (given t) (visit-at t) visit.Post Inv μ) →
     let gv = c .before .before .before .before .before .before .before .before .before .before .before .before .before .before .before .before .before in
     let at = gv .before .before .before .before in
-    cubeOfWords (set (set (at .loop .near) (at .loop .i / 32) (gv .given .result)) (at .loop .i / 32) (c .given2 .result)) ≡ set (cubeOfWords (at .loop .near)) (at .loop .i) (codeOf (gv .before .number-in .result))
+    cubeOfWords (set (set (at .loop .near) (at .loop .i / 32) (gv .given .result)) (at .loop .i / 32) (c .given2 .result)) ≡ set
+    (cubeOfWords (at .loop .near)) (at .loop .i) (codeOf (gv .before .number-in .result))
 at-agreed t c =
     let gv = c .before .before .before .before .before .before .before .before .before .before .before .before .before .before .before .before .before in
     let at = gv .before .before .before .before in
@@ -158,7 +160,8 @@ at-later : (t : ℕ) (c : visit-lts.After-cut4 (given t) (visit-at t) visit.Post
     let gv = g2 .before .before .before .before .before .before .before .before .before .before .before .before .before .before .before .before .before in
     let at = gv .before .before .before .before in
     let g = at .before .before .before .before .before .before .before .before .before .args in
-    at .loop .i < firstOpen (cubeOfWords (set (set (at .loop .near) (at .loop .i / 32) (gv .given .result)) (at .loop .i / 32) (g2 .given2 .result))) (cubeOfWords (getD (g .cuts .now) (g .n) []))
+    at .loop .i < firstOpen (cubeOfWords (set (set (at .loop .near) (at .loop .i / 32) (gv .given .result)) (at .loop .i / 32) (g2 .given2 .result)))
+    (cubeOfWords (getD (g .cuts .now) (g .n) []))
 at-later t c =
     let g2 = c .before .before .before in
     let gv = g2 .before .before .before .before .before .before .before .before .before .before .before .before .before .before .before .before .before in
@@ -357,7 +360,8 @@ visit-loop-again t c =
       length-set (set (at .loop .near) (at .loop .i / 32) (gv .given .result)) (at .loop .i / 32) (g2 .given2 .result) ∙ length-set (at .loop .near) (at .loop .i / 32) (gv .given .result) ∙ v .3,
       c .next-open2 .ensures,
       v .5,
-      v .6 ∙ turn-covered _ _ _ _ (words-length _ ∙ sym (words-length _)) _ (v .4) (omega (arith, words-length (at .loop .near))) _ _ (o .fixed) (o .turned) _
+      v .6
+          ∙ turn-covered _ _ _ _ (words-length _ ∙ sym (words-length _)) _ (v .4) (omega (arith, words-length (at .loop .near))) _ _ (o .fixed) (o .turned) _
           (took-cube (at .loop .near) (at .loop .i) _ (gv .given .result) (v .3) h (gv .given .ensures)) _ (r .0) (is-covered _ (k1 .match .keys1)) ∙ ap (leftFrom _ _ _) (sym (at-agreed t g2)),
       rw (set-set (at .loop .near) (at .loop .i / 32) (gv .given .result) (g2 .given2 .result))
           (took-alive (at .loop .near) (at .loop .i) _ (g2 .given2 .result) (v .3) h (g2 .given2 .ensures) _ _ (g .against .now) _ _ (o .unfixed) (o .least) (o .most) (v .7) (v .8) (n2 .narrow2 .ensures)),

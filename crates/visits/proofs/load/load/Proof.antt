@@ -16,7 +16,8 @@ use Rattle.cube.specs.Whole.{wholeAt}
 
 abbrev Inv-loop : tie.InvT-loop
 Inv-loop s at q ws₀ w₀ ws w =
-    (q ≤ 80) × (8 * w < q + 8) × (length ws ≡ 10) × ((v : ℕ) → v < w → HoldsBytes (padded q (drop at s)) 8 (8 * v) (getD ws v 0)) × ((v : ℕ) → w ≤ v → v < 10 → getD ws v 0 ≡ 18446744073709551615)
+    (q ≤ 80) × (8 * w < q + 8) × (length ws ≡ 10) × ((v : ℕ) → v < w → HoldsBytes (padded q (drop at s)) 8 (8 * v) (getD ws v 0)) ×
+    ((v : ℕ) → w ≤ v → v < 10 → getD ws v 0 ≡ 18446744073709551615)
 
 abbrev μ-loop : tie.MeasureT-loop
 μ-loop s at q ws₀ w₀ ws w = 10 - w

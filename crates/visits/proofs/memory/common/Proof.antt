@@ -14,7 +14,8 @@ use Rattle.visits.proofs.memory.common.Statement.{statement}
 use Rattle.visits.proofs.memory.common.Tie as tie
 
 abbrev Inv-loop : tie.InvT-loop
-Inv-loop cuts alive m₀ x₀ m x = (x < 2 ^ 64) × (x < 2 ^ length cuts) × ((j : ℕ) → j < 64 → digit j alive ≡ 1 → (digit j x ≡ 1) ⊎ Lies m (rowCube cuts j))
+Inv-loop cuts alive m₀ x₀ m x =
+    (x < 2 ^ 64) × (x < 2 ^ length cuts) × ((j : ℕ) → j < 64 → digit j alive ≡ 1 → (digit j x ≡ 1) ⊎ Lies m (rowCube cuts j))
 
 abbrev μ-loop : tie.MeasureT-loop
 μ-loop cuts alive m₀ x₀ m x = x

@@ -18,7 +18,8 @@ use Rattle.visits.proofs.table.enter.Tie as tie
 
 abbrev Inv-loop : tie.InvT-loop
 Inv-loop against₀ cut one near₀ i₀ against near i =
-    (length against ≡ 640) × (length near ≡ 10) × (i ≡ firstOpen (cubeOfWords near) (cubeOfWords cut)) × Entered against₀ (cubeOfWords near) one against
+    (length against ≡ 640) × (length near ≡ 10) × (i ≡ firstOpen (cubeOfWords near) (cubeOfWords cut)) × Entered against₀
+    (cubeOfWords near) one against
     × ((j : ℕ) → j < 320 → (getD (cubeOfWords near) j none ≡ free) ⊎ (getD (cubeOfWords near) j none ≡ getD (cubeOfWords cut) j none))
     × (length against₀ ≡ 640) × ((k : ℕ) → k < 640 → getD against₀ k 0 + one < 2 ^ 64)
 

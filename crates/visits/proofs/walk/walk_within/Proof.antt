@@ -28,7 +28,8 @@ returns-2 : tie.Need-returns-2
 returns-2 c =
     let vs = c .before .before in
     let st = vs .before .before .before .before in
-    resumed-says (st .args .q) (st .args .a) _ _ (vs .visit2 .result) (omega (arith, vs .before .if1 .left)) refl (vs .visit2 .ensures) (not-undecided _ (c .before .match .keys2)) (c .resumed .result) (c .resumed .ensures)
+    resumed-says (st .args .q) (st .args .a) _ _ (vs .visit2 .result) (omega (arith, vs .before .if1 .left)) refl (vs .visit2 .ensures)
+    (not-undecided _ (c .before .match .keys2)) (c .resumed .result) (c .resumed .ensures)
 
 long-walk-requires : tie.Need-long-walk-requires
 long-walk-requires c κs = search needs

@@ -22,10 +22,13 @@ use Rattle.walk.proofs.ceilings.ceiling.Statement.{statement}
 use Rattle.walk.proofs.ceilings.ceiling.Tie as tie
 
 -- where the call goes on, the record stands
-stands : (c : tie.After-front-at) → Stands (cubeLen (c .before .before .before .before .before .args .w)) (c .before .before .before .before .before .args .s .now) (c .front-at .result)
+stands : (c : tie.After-front-at)
+    → Stands (cubeLen (c .before .before .before .before .before .args .w)) (c .before .before .before .before .before .args .s .now) (c .front-at .result)
 stands c =
     let x = c .before .before .before .before .before .args in
-    front-stands (record-of true (x .w) 0 (x .s .now) 0 (one-lent (x .w) (x .s .now) _ (c .before .before .before .one-refusal .ensures) (c .before .if1 .left) .sound)) (c .front-at .ensures .0)
+    front-stands
+    (record-of true (x .w) 0 (x .s .now) 0 (one-lent (x .w) (x .s .now) _ (c .before .before .before .one-refusal .ensures) (c .before .if1 .left) .sound))
+    (c .front-at .ensures .0)
 
 one-refusal-requires : tie.Need-one-refusal-requires
 one-refusal-requires c κs = search needs

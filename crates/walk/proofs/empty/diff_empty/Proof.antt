@@ -50,7 +50,8 @@ walk-record-requires c κs =
     let one-refusal = c .before .before .before .before .before .before .one-refusal in
     let x = c .before .before .before .before .before .before .before .before .before .args in
     let l = one-lent (x .w) (x .s .now) _ (one-refusal .ensures) (if1 .left) in
-    rw (c .before .cube-len .ensures) (omega (arith, l .narrow), front-stands (record-of true (x .w) 0 (x .s .now) 0 (l .sound)) (c .front-at .ensures .0), search needs)
+    rw (c .before .cube-len .ensures)
+    (omega (arith, l .narrow), front-stands (record-of true (x .w) 0 (x .s .now) 0 (l .sound)) (c .front-at .ensures .0), search needs)
 
 tell-requires : tie.Need-tell-requires
 tell-requires c κs =

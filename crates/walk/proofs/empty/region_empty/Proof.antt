@@ -78,7 +78,8 @@ returns-3 c =
     let e = rw (cube-len .ensures ∙ ap cubeLen (f .width)) at (v .ensures) in
     told-out (x .out .now) (c .before .before .tell .ensures .0) (c .before .before .tell .ensures .1)
     (ap (λ (w : ℕ). toldOf w (v .result .verdict) (v .result .allowance .spent) (v .result .piece)) (f .width)
-    ∙ region-told (x .s .now) (x .allowance) (length (x .out .now)) (accepted (c .before .before .before .before .before .before .before .before)) (omega (arith, if2 .left, header-len .ensures, f .width)) (v .result) e)
+    ∙ region-told (x .s .now) (x .allowance) (length (x .out .now)) (accepted (c .before .before .before .before .before .before .before .before))
+    (omega (arith, if2 .left, header-len .ensures, f .width)) (v .result) e)
 
 pub region-empty-spec : {M : Type 1} → statement M
 region-empty-spec =

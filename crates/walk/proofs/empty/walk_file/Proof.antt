@@ -30,7 +30,8 @@ abbrev μ-loop : tie.MeasureT-loop
 
 -- the walk of the record here, with its cubes' bytes named by the width
 here : (c : tie.After-walk-record Inv-loop μ-loop) → let x = c .before .before .before .before .before .before .args in
-    says (x .q) (c .walk-record .result) ≡ settle (c .before .before .before .loop .have) (walk (wholeDifference (cubeLen (widthOf (x .s .now))) (x .s .now) (c .before .front-at .result)))
+    says (x .q) (c .walk-record .result) ≡ settle (c .before .before .before .loop .have)
+    (walk (wholeDifference (cubeLen (widthOf (x .s .now))) (x .s .now) (c .before .front-at .result)))
 here c = c .walk-record .ensures ∙ rw (c .before .before .before .loop .inv .0)
 
 first-at-requires : tie.Need-first-at-requires Inv-loop μ-loop
@@ -57,7 +58,8 @@ returns : tie.Need-returns Inv-loop μ-loop
 returns c =
     let x = c .before .before .before .before .before .before .before .args in
     let l = c .before .before .before .before .loop in
-    file-stop (widthOf (x .s .now)) (x .s .now) (l .at) (l .have) (l .inv .3) (c .before .before .before .loop-test .taken) (c .before .before .front-at .ensures .0) _ (here (c .before))
+    file-stop (widthOf (x .s .now)) (x .s .now) (l .at) (l .have) (l .inv .3) (c .before .before .before .loop-test .taken)
+    (c .before .before .front-at .ensures .0) _ (here (c .before))
     (not-covered (c .before .walk-record .result .verdict) (c .match .keys2))
     ∙ sym (l .inv .4)
 

@@ -63,8 +63,10 @@ returns c =
     let put = c .before .before .before .before .before .put in
     let p = c .before .before .before .before .before .before .before .before .before .before .before .before .pre in
     let x = c .before .before .before .before .before .before .before .before .before .before .before .before .args in
-    cuts-gathered (x .q) (x .f .cuts) (x .s .now) (x .t .now) _ _ _ (x .f .base + x .q) (x .g .base) (inside (c .before .before .before .before .before .before .before .before .before .before .before .before)) (omega (arith, p .second .within))
-    (omega (arith, most (c .before .before .before .before .before .before .before .before .before .before .before .before), p .short)) (put .ensures) (c .before .put2 .ensures)
+    cuts-gathered (x .q) (x .f .cuts) (x .s .now) (x .t .now) _ _ _ (x .f .base + x .q) (x .g .base)
+    (inside (c .before .before .before .before .before .before .before .before .before .before .before .before)) (omega (arith, p .second .within))
+    (omega (arith, most (c .before .before .before .before .before .before .before .before .before .before .before .before), p .short)) (put .ensures)
+    (c .before .put2 .ensures)
 
 pub gathered-spec : {M : Type 1} → statement M
 gathered-spec =

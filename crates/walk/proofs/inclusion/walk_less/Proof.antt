@@ -30,7 +30,8 @@ returns-2 : tie.Need-returns-2
 returns-2 c =
     let x = c .before .before .before .before .before .before .args in
     let v = c .before .before .before .walk-first in
-    c .walk-restored .ensures ∙ sym (said-on (x .a) _ _ (says (x .q) (v .result)) (v .ensures) (is-covered (v .result .verdict) (c .before .before .match .keys1)))
+    c .walk-restored .ensures
+    ∙ sym (said-on (x .a) _ _ (says (x .q) (v .result)) (v .ensures) (is-covered (v .result .verdict) (c .before .before .match .keys1)))
 
 pub walk-less-spec : {M : Type 1} → statement M
 walk-less-spec =

@@ -40,7 +40,8 @@ begun : (c : tie.In-loop Inv-loop μ-loop) → let x = c .before .before .before
 begun c =
     let x = c .before .before .before .before .before .args in
     let l = c .before .loop in
-    l .inv .4 ∙ ap (settle (l .have)) (restored-cut (wholeDifference (x .q) (x .s .now) (x .f)) (x .q) (x .t .now) (l .at) (l .left) (l .left - 1) (omega arith))
+    l .inv .4
+    ∙ ap (settle (l .have)) (restored-cut (wholeDifference (x .q) (x .s .now) (x .f)) (x .q) (x .t .now) (l .at) (l .left) (l .left - 1) (omega arith))
 
 add-at : tie.Need-add-at Inv-loop μ-loop
 add-at c = omega (arith, c .before .before .before .pre .0 .second .within)
@@ -58,7 +59,8 @@ returns : tie.Need-returns Inv-loop μ-loop
 returns c =
     let x = c .before .before .before .before .before .before .before .args in
     let v = c .before .walk-back in
-    said-stop (c .before .before .before .loop .have) _ _ (says (x .q) (v .result)) (v .ensures) (not-covered (v .result .verdict) (c .match .keys2)) ∙ sym (begun (c .before .before))
+    said-stop (c .before .before .before .loop .have) _ _ (says (x .q) (v .result)) (v .ensures) (not-covered (v .result .verdict) (c .match .keys2))
+    ∙ sym (begun (c .before .before))
 
 add-at-2 : tie.Need-add-at-2 Inv-loop μ-loop
 add-at-2 c = omega (arith, more (c .before .before .before .before))
