@@ -1,4 +1,4 @@
--- The calls that write regions, where no operand is refused. Assumes nothing.
+-- The calls that write regions, where no operand is refused.
 --   diff-intersect-stand, diff-less-stand, region-tidy-stand, region-intersect-stand, region-less-stand    the operands stand
 --   diff-intersect-told, diff-less-told, region-tidy-told, region-intersect-told, region-less-told    what each call tells
 --   file-fault, file-lent      a refused file is what the table of a call on it gives; on an accepted file the table goes on

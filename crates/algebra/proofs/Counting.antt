@@ -1,4 +1,4 @@
--- Counting a result, one difference after another. Assumes nothing.
+-- Counting a result, one difference after another.
 --   count-none       nothing is counted yet
 --   add-none         nothing is added
 --   add-long         a difference with too many cuts

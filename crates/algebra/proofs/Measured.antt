@@ -1,4 +1,4 @@
--- The table of a result that is to be written, from what was measured of it. Assumes nothing.
+-- The table of a result that is to be written, from what was measured of it.
 --   nothing-back       a buffer of which no byte was lent
 --   result-long, result-many, result-short, result-written    the four ends of a result that is to be written
 --   result-few, result-size    its differences and its bytes, where it is not refused

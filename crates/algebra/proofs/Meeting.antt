@@ -1,4 +1,4 @@
--- A cube met with one that stands at an offset, and put into a buffer. Assumes nothing.
+-- A cube met with one that stands at an offset, and put into a buffer.
 --   met-back      what the buffer holds when the meet was written over the front of a part of it
 --   met-codes     the meet's codes
 --   met-length    it has as many bytes

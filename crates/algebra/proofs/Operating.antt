@@ -1,4 +1,4 @@
--- What the pairs of each operation make together, over differences of whole bytes. Assumes nothing.
+-- What the pairs of each operation make together, over differences of whole bytes.
 --   wholeThere q s at == the difference of the record at an offset
 --   wholeRegion q s a == the region of the records from a on
 --   tidy-stops, less-turn    where tidying stops; a stop of subtraction more

@@ -1,4 +1,4 @@
--- Differences of whole bytes are those of w positions with the unused places behind them, and are written as they are. Assumes nothing.
+-- Differences of whole bytes are those of w positions with the unused places behind them, and are written as they are.
 --   bytes-padded, long-padded    what is written, and whether a difference has too many cuts
 use Prim.Native.Nat.{ℕ, _-_, _*_}
 use native.Mathlib.Omega.{arith}

@@ -1,4 +1,4 @@
--- The base of a piece, and the piece tidied. Assumes nothing.
+-- The base of a piece, and the piece tidied.
 --   base-own, base-none, base-met   the base as it is, none, or met with the stop's cube
 use Prim.Native.Nat.{ℕ, _+_, _-_, _≤_}
 use native.Mathlib.Omega.{arith}

@@ -1,4 +1,4 @@
--- Going over the pairs of a result. Assumes nothing.
+-- Going over the pairs of a result.
 --   less-next, less-room       the stops of subtraction: the next one, and that a cube that stands has room
 --   stop-on                    the next stop is further on
 --   left                       what the pairs from one on make

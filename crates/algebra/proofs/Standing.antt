@@ -1,4 +1,4 @@
--- Accepted operands: their records and the stops in them stand within, and what is made of them is the operation's region, tidied. Assumes nothing.
+-- Accepted operands: their records and the stops in them stand within, and what is made of them is the operation's region, tidied.
 --   Runs w s a r       == the records of s from a on are accepted, and hold the region r of width w
 --   file-runs, record-runs     those of an accepted file, and of an accepted single record
 --   ShowsRegion w p r        == the region p of differences of whole bytes is the region r of width w

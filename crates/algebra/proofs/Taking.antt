@@ -1,4 +1,4 @@
--- Taking the next cut of a piece. Assumes nothing.
+-- Taking the next cut of a piece.
 --   cut-apart, cut-covered, cut-again, cut-more   what becomes of it: dropped, the difference omitted, dropped, or kept behind the others
 use Prim.Native.Nat.{ℕ, _+_, _-_, _*_, _≤_, _<_}
 use native.Mathlib.Nat.{mul-le-mul-right}

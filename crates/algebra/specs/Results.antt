@@ -1,7 +1,6 @@
 -- The tail of the calls that write a region.
 --   wholeRows w p room    == the table of a result that is to be written, the region p of differences of whole bytes
 --   wholeTold o w s a t x room == what is told of the whole result of the operation o
--- Assumes nothing: these are definitions.
 use Prim.Native.Nat.{ℕ, _*_}
 use mathlib.Core.List.{List, _++_}
 use Rattle.model.specs.Difference.{Region}

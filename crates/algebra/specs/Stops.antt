@@ -7,7 +7,6 @@
 --   cutsOf q s f t p      == its cuts: those of the difference, then those of the stop
 --   piecesOf q s f t p    == the piece, or none
 --   MadeOf q s f t p buf m == m is that piece tidied, and the buffer holds it
--- Assumes nothing: these are definitions.
 use Prim.Native.Nat.{ℕ, _+_, _*_, _≤_}
 use mathlib.Core.Path.{_≡_}
 use mathlib.Core.List.{List, [], _∷_, _++_, map}

@@ -5,7 +5,6 @@
 --   held q buf m           == the difference that the buffer holds, or none
 --   most m                 == how many cuts are kept of it
 --   Taken base old k cs new m n == the cuts cs, taken with k kept in the buffer old, leave the piece m with at most n kept in the buffer new
--- Assumes nothing: these are definitions.
 use Prim.Native.Nat.{ℕ, _+_, _*_, _≤_}
 use mathlib.Core.Path.{_≡_}
 use mathlib.Core.List.{List, [], _∷_, _++_}

@@ -11,7 +11,6 @@
 --   PutBehind k q cubes o old r new == a record ends at r that begins at o; where it fits a buffer that held old, the buffer is now new, with the record
 --                            there of the difference whose cubes stand in a row
 --   Adds q r out sum new next == whatever sum counts and out has of it, next counts with the region r after it, and new has
--- Assumes nothing: these are definitions.
 use Prim.Native.Nat.{ℕ, _+_, _*_, _≤_}
 use mathlib.Core.Path.{_≡_}
 use mathlib.Core.List.{List, _++_}

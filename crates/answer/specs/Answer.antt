@@ -6,7 +6,6 @@
 --   showing k b        == no, with a count of k and a header of b bytes written
 --   wrote b            == written: b bytes
 --   placed at          == yes, with the offset of a record that is at no fault
--- Assumes nothing: these are definitions.
 use Prim.Native.Nat.{ℕ}
 use Rattle.answer.specs.declared.Answer.{Answer}
 

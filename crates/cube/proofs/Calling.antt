@@ -1,4 +1,4 @@
--- The outcome of each call on two lent cubes, from what the calls on their bytes say. Assumes nothing.
+-- The outcome of each call on two lent cubes, from what the calls on their bytes say.
 use mathlib.Core.Path.{_≡_, refl, sym, ap, ap₂, _∙_}
 use mathlib.Core.List.{List, []}
 use mathlib.Core.Bool.{true, false, not, _||_, or-true}

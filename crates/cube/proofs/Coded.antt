@@ -1,4 +1,4 @@
--- Codes read and written in bytes. Assumes nothing.
+-- Codes read and written in bytes.
 --   shift-code, weight-pow     a code as it is read, and the weight of its place
 --   code-small, code-none      a code read is below 4, and 0 where there is no byte
 --   code-here       the code at a position of a cube that stands at the front

@@ -1,4 +1,4 @@
--- The codes of bytes: as many to each byte, one byte after the other, and `&` on bytes is the meet of the codes. Assumes nothing.
+-- The codes of bytes: as many to each byte, one byte after the other, and `&` on bytes is the meet of the codes.
 use mathlib.Core.Path.{_≡_, refl, sym, ap, ap₂, _∙_}
 use mathlib.Core.List.{List, [], _∷_, _++_}
 use mathlib.Core.Bool.{Bool, true, false, _&&_, and-assoc, and-false, true≢false}

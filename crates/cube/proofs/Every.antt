@@ -1,4 +1,4 @@
--- A rule of a table, or of every byte, proved at all entries by one test that antt computes. Assumes nothing.
+-- A rule of a table, or of every byte, proved at all entries by one test that antt computes.
 --   at f xs t k h      the test f, which passes at each entry of xs and its place, passes at the place k
 --   below n f t k h    the test f, which passes at each number below n, passes at k
 --   below2 m n f t j k h l   the test f, which passes at each two numbers below m and n, passes at j and k

@@ -1,5 +1,5 @@
 -- What is wrong with a cube's bytes, by parts: the bytes that hold positions alone, the byte that holds the last positions and the first unused places, and
--- the bytes after it. Assumes nothing.
+-- the bytes after it.
 use mathlib.Core.Path.{_≡_, refl, sym, ap, _∙_}
 use mathlib.Core.List.{List, [], _∷_}
 use mathlib.Core.Bool.{Bool, true, false, not, _&&_, cond}

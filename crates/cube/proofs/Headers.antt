@@ -1,4 +1,4 @@
--- The bits of header bytes, and where one is set. Assumes nothing.
+-- The bits of header bytes, and where one is set.
 use mathlib.Core.Path.{_≡_, refl, sym, ap, _∙_}
 use mathlib.Core.List.{List, [], _∷_, _++_}
 use mathlib.Core.Bool.{Bool, false, not, _||_, or-assoc}

@@ -1,4 +1,4 @@
--- Bytes laid into a buffer. Assumes nothing.
+-- Bytes laid into a buffer.
 --   put-fits, put-long       where the bytes fit they are laid, and else nothing is
 --   put-front                bytes that fit at the front stand there
 --   pasted                   bytes copied one by one from the first to the last are laid

@@ -1,3 +1,4 @@
+-- The laws of cubes of bytes.
 pub mod Every
 pub mod Octets
 pub mod Codes

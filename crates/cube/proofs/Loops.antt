@@ -1,5 +1,5 @@
 -- Loops over bytes that gather, by OR in one number, what is wrong at each place. The invariant: the number is 0 and what is left is right, exactly when the
--- whole is right. Assumes nothing.
+-- whole is right.
 use mathlib.Core.Path.{_≡_, refl, sym, ap, _∙_}
 use mathlib.Core.List.{List, [], _∷_}
 use mathlib.Core.Bool.{Bool, true, false, _&&_, and-assoc, and-true}

@@ -1,4 +1,4 @@
--- What arithmetic on a byte says of its codes and bits: each rule is one test that antt computes at all 256 bytes. Assumes nothing.
+-- What arithmetic on a byte says of its codes and bits: each rule is one test that antt computes at all 256 bytes.
 use mathlib.Core.Path.{_≡_}
 use mathlib.Core.List.{[], _∷_}
 use mathlib.Core.Bool.{not}

@@ -1,4 +1,4 @@
--- Two cubes as bytes: lying in each other, and the meet written over the front of a buffer. Assumes nothing.
+-- Two cubes as bytes: lying in each other, and the meet written over the front of a buffer.
 --   lies-within, lies-apart    `liesIn` asks for one length and for `within`
 --   into-over                  a meet that fits is written over the front of the buffer, and the rest is kept
 use mathlib.Core.Path.{_≡_, refl, ap}

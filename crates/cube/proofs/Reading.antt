@@ -1,4 +1,4 @@
--- Accepted cubes: what is asked of their bytes is asked of the cubes that they read as. Assumes nothing.
+-- Accepted cubes: what is asked of their bytes is asked of the cubes that they read as.
 --   lent-clean      an accepted lent cube has its length, and no fault
 --   read-shares, read-lies     sharing a header and lying in
 --   read-meet       the AND of the bytes is what writing the meet writes

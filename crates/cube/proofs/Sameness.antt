@@ -1,4 +1,4 @@
--- Whether cubes are the same, byte by byte. Assumes nothing.
+-- Whether cubes are the same, byte by byte.
 --   same-apart     bytes of different lengths hold different cubes
 --   same-turn      equal first bytes: the others decide
 --   same-stop      different first bytes

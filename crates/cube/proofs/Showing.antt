@@ -1,4 +1,4 @@
--- The header that a piece shows, byte by byte. Assumes nothing.
+-- The header that a piece shows, byte by byte.
 --   half-right, byte-right, mask-right   what a cube's byte shows, what two show, and a byte's last bits
 --   whole, pair              all that a piece shows, and two bytes of it
 --   shown-fits               where there is room, the header stands over the front of the buffer

@@ -1,4 +1,4 @@
--- The cube that fixes each bit of a header, as bytes. Assumes nothing.
+-- The cube that fixes each bit of a header, as bytes.
 --   within-holds    that cube lies in another exactly when the other holds the header
 use mathlib.Core.Path.{_≡_, refl, sym, ap, ap₂, _∙_}
 use mathlib.Core.List.{List, [], _∷_, _++_, map, append-assoc, append-nil}

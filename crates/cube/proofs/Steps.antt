@@ -1,4 +1,4 @@
--- What is asked of the first bytes of two lists, for each loop over bytes, and that what is left is asked of the others. Assumes nothing.
+-- What is asked of the first bytes of two lists, for each loop over bytes, and that what is left is asked of the others.
 use mathlib.Core.Path.{_≡_, refl, sym, ap, _∙_}
 use mathlib.Core.List.{List, [], _∷_}
 use mathlib.Core.Bool.{Bool, true, false, not, _&&_, _||_, or-assoc}

@@ -1,4 +1,4 @@
--- Cubes of whole bytes, and rows of them. Assumes nothing.
+-- Cubes of whole bytes, and rows of them.
 --   whole-part, part-length  the part of bytes that such a cube is
 --   whole-padded, wholes-padded    the cubes of an accepted record are the model's, with the unused places behind each
 --   row-room, row-length     the bytes of a row of n cubes are those of the first and of the others; it has n cubes

@@ -1,6 +1,5 @@
 -- What the call that hands back a cube gives.
 --   WiderIs w a b r       == r is the wider of the references a and b: the very reference, or an empty part of a
--- Assumes nothing: these are definitions.
 use mathlib.Core.Path.{_≡_}
 use mathlib.Core.List.{List, []}
 use Prim.Native.Nat.{ℕ}

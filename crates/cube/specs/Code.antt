@@ -1,7 +1,6 @@
 -- Codes in the bytes of a cube. A position's place in its byte has the weight 64, 16, 4 or 1.
 --   codeAt s at i    == the code at position i of the cube that stands in s at an offset, as a number; 0 where s has no byte
 --   recoded b w v    == the byte b with the code v at the place of weight w
--- Assumes nothing: these are definitions.
 use Prim.Native.Nat.{ℕ, _+_, _-_, _*_, _/_, _%_, _^_}
 use mathlib.Core.List.{List}
 use lib.ListN.{getD}

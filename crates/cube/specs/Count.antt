@@ -1,6 +1,5 @@
 -- How many positions a cube leaves free. "The work keeps two byte tables of 256 numbers each: the codes 3 in a byte, and whether it holds a code 0."
 --   freeCount c    == the number of codes `free` in c
--- Assumes nothing: these are definitions.
 use Prim.Native.Nat.{ℕ, suc}
 use mathlib.Core.List.{[], _∷_}
 use Rattle.model.specs.Cube.{Cube, none, v0, v1, free}

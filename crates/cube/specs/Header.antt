@@ -1,6 +1,5 @@
 -- Header bytes as a cube.
 --   spelledCube bs        == the cube of the widest header that fixes each bit of bs, and 0 where bs has none
--- Assumes nothing: these are definitions.
 use Prim.Native.Nat.{ℕ}
 use mathlib.Core.List.{List, _++_, map}
 use lib.ListN.{take, replicate}

@@ -1,7 +1,6 @@
 -- Bytes laid into a buffer.
 --   laid old o new    == a buffer that held old, with new written over it from an offset on
 --   put old o new     == the same where new fits there whole, else old
--- Assumes nothing: these are definitions.
 use Prim.Native.Nat.{ℕ, _+_}
 use mathlib.Core.List.{List, _++_}
 use mathlib.Core.Bool.{cond}

@@ -1,3 +1,4 @@
+-- The words of the contracts of cubes.
 pub mod Count
 pub mod Pair
 pub mod Header

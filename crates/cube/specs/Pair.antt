@@ -2,7 +2,6 @@
 --   liesIn a b        == a lies in b, and both have as many bytes
 --   andBytes a b      == the AND of the bytes, as long as both have one
 --   andInto a b out   == out with that AND over its front
--- Assumes nothing: these are definitions.
 use Prim.Native.Nat.{ℕ}
 use mathlib.Core.List.{List, [], _∷_}
 use mathlib.Core.Bool.{Bool, _&&_}

@@ -1,7 +1,6 @@
 -- The header that a piece shows, written.
 --   showInto piece w old    == a buffer that held old, with the header of the piece's first w positions, all free ones 0, over its front; old where w is
 --                              above the widest width, or where the header has no room
--- Assumes nothing: these are definitions.
 use Prim.Native.Nat.{ℕ}
 use mathlib.Core.List.{List}
 use mathlib.Core.Bool.{cond}

@@ -2,7 +2,6 @@
 --   cubeOf q bs              == the cube in the first q bytes of bs
 --   wholeAt q s at           == the cube of q bytes that stands in s at an offset
 --   wholesAt q s at n        == n such cubes, from an offset on
--- Assumes nothing: these are definitions.
 use Prim.Native.Nat.{ℕ, zero, suc, _+_}
 use mathlib.Core.List.{List, [], _∷_}
 use lib.ListN.{take, drop}

@@ -1,1 +1,2 @@
+-- The words of the contracts of reading lines.
 pub mod Reading

@@ -1,6 +1,5 @@
 -- Where the reading of lines stands in the buffer.
 --   Sound l n          == a line begins no later than what was looked at ends, that no later than what was read, and that lies within n bytes
--- Assumes nothing: this is a definition.
 use Prim.Native.Nat.{ℕ, _≤_}
 use Rattle.desk.specs.declared.lines.Lines.{Lines}
 

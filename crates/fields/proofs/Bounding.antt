@@ -1,4 +1,4 @@
--- The tests of a field, before the table of a call. Assumes nothing.
+-- The tests of a field, before the table of a call.
 --   FieldIn w s n    == the width w is accepted, and the field of n positions from s on stands in it
 --   field-refused    a refusal of the width or the field is what the call's table gives
 --   field-stands     where there is none, the field stands

@@ -1,4 +1,4 @@
--- The cubes of prefix constraints and of equality of fields, position by position, and as bytes. Assumes nothing.
+-- The cubes of prefix constraints and of equality of fields, position by position, and as bytes.
 --   prefix-none, prefix-more    no position fixed yet, and one more
 --   bit-code            the code of a bit
 --   prefix-size, prefix-bytes    how many bytes a prefix cube takes, and which

@@ -1,6 +1,5 @@
 -- Where a field stands.
 --   fieldTests w s n == the tests of a width given directly, and then of a field of n positions from s on
--- Assumes nothing: these are definitions.
 use Prim.Native.Nat.{ℕ, _+_}
 use Rattle.answer.specs.declared.Answer.{Answer}
 use Rattle.answer.specs.Answer.{said}

@@ -2,7 +2,6 @@
 --   mostPairs        == the most positions that have cuts, two to each
 --   pairs p q n      == how many positions of fields at p and at q have cuts
 --   equalBytes w p q n == the record of an equality with the cuts of n positions
--- Assumes nothing: these are definitions.
 use Prim.Native.Nat.{ℕ, _*_, _/_}
 use mathlib.Core.List.{List, _∷_, _++_}
 use mathlib.Core.Bool.{cond}

@@ -1,2 +1,3 @@
+-- The words of the contracts of fields.
 pub mod Bounds
 pub mod Equality

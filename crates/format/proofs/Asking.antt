@@ -1,4 +1,4 @@
--- What a call that walks tells: yes, no with a header, or that the allowance is too small. Assumes nothing.
+-- What a call that walks tells: yes, no with a header, or that the allowance is too small.
 --   Looks w In v             == the walk v, of headers of w positions, looks for the headers that In holds of
 --   count-told               the count told is the decision's
 --   Asks w n In v Ok x       == a call with the allowance n, which accepts its operands and room exactly where Ok holds, tells x of such a walk

@@ -1,4 +1,4 @@
--- The calls that answer yes or no of a header or of two cubes, and what each answer tells of the headers. Assumes nothing.
+-- The calls that answer yes or no of a header or of two cubes, and what each answer tells of the headers.
 --   diff-member-yes, diff-member-no, region-member-yes, region-member-no    whether a header is in a difference, in a region
 --   cube-in-yes, cube-in-no    the first cube is inside the second, or a header shows that it is not
 --   wider-first, wider-second  the cube handed back holds the other

@@ -1,4 +1,4 @@
--- Cubes as bytes: what an accepted cube's bytes read as, and that reading and writing undo one another. Assumes nothing.
+-- Cubes as bytes: what an accepted cube's bytes read as, and that reading and writing undo one another.
 --   length-codes, code-at    how many codes bytes have, and which one stands at a position, in document 01's words
 --   fault-solid, fault-free  what an accepted cube is: no code 0 at a position, every unused place 3
 --   lent-length, lent-cube   what an accepted lent cube is: of its length, and an accepted cube

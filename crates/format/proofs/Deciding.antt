@@ -1,4 +1,4 @@
--- The calls that walk: emptiness of a difference and of a region, inclusion, and the ceiling. Assumes nothing.
+-- The calls that walk: emptiness of a difference and of a region, inclusion, and the ceiling.
 --   empty-yes, empty-yes-when    emptiness of a difference is yes exactly when the operand and the room are accepted, the allowance pays for the walk,
 --                            and no header is in the difference
 --   empty-no                 where it is no, the bytes written are a header in it

@@ -1,4 +1,4 @@
--- Document 01's figures P1 to P10, as one list about the definitions. Assumes nothing.
+-- Document 01's figures P1 to P10, as one list about the definitions.
 use mathlib.Core.Path.{_≡_, refl}
 use mathlib.Core.List.{[], _∷_}
 use Rattle.model.specs.Cube.{v0, v1, free}

@@ -1,4 +1,4 @@
--- Region files: one turn of their reading, what an accepted file holds, and that reading and writing undo one another. Assumes nothing.
+-- Region files: one turn of their reading, what an accepted file holds, and that reading and writing undo one another.
 --   from-end, from-refused, from-record    a reading at the file's end, at a refused record, at an accepted one; n counts the records before it
 --   before-number                          a record read before the rest leaves the rest's refusal as it is
 --   read-refused, read-begun               a file whose kind 1 record is refused, and one whose kind 1 record is accepted

@@ -1,4 +1,4 @@
--- Headers as bytes: which bit stands at a position, and that a header written is accepted and read again. Assumes nothing.
+-- Headers as bytes: which bit stands at a position, and that a header written is accepted and read again.
 --   length-bits, bit-at      how many bits bytes have, and which one stands at a position, in document 01's words
 --   bits-written             the bytes written hold the header, with zeros behind it
 --   header-length, header-bytes    how many bytes are written, and that they are bytes

@@ -1,4 +1,4 @@
--- The tests that calls start with, each as one question: r is the first refusal, or has the number 0. Assumes nothing.
+-- The tests that calls start with, each as one question: r is the first refusal, or has the number 0.
 --   Accepts a          == the number of a is 0, which refuses nothing
 --   tests-refused, tests-passed, tests-past    of any tests p: a refusal is what the table gives; where there is none it goes on, and each test fails
 --   width-refused, pair-refused, one-refused, two-refused, record-refused, bits-refused    a refusal is what the call's table gives

@@ -1,4 +1,4 @@
--- A table's outcome from the facts on the way to a row: every test above it fails, and its own holds. Assumes nothing.
+-- A table's outcome from the facts on the way to a row: every test above it fails, and its own holds.
 --   reached n k h      the outcome of k is that of row n, counted from 0; a number past the rows is the last line
 --   each P k h         what holds of every row's outcome holds of the table's
 --   fails t h          a test that fails is false

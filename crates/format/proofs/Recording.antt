@@ -1,4 +1,4 @@
--- Kind 2 records: what an accepted one holds, and that reading and writing undo one another. Assumes nothing.
+-- Kind 2 records: what an accepted one holds, and that reading and writing undo one another.
 --   drop-past                what stands behind a front that stands at an offset
 --   u16-same                 a number in two bytes is written again with the same bytes
 --   bytes-take, bytes-drop, bytes-append    parts of bytes, and bytes behind bytes, are bytes

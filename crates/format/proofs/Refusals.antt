@@ -1,4 +1,4 @@
--- Refusals have numbers from 10 on, so a smaller number tells that no test refused. Assumes nothing.
+-- Refusals have numbers from 10 on, so a smaller number tells that no test refused.
 --   Refusal f             == f is 0, no fault, or from 10 on
 --   lent-refusal, record-refusal, width-refusal, file-refusal    the faults of a lent cube, of a kind 2 and a kind 1 record and of a file are such
 use Prim.Native.Nat.{ℕ, zero, suc, _+_, _*_, _≤_, min}

@@ -1,4 +1,4 @@
--- The calls that hand back a stretch of the file or a place in it. Assumes nothing.
+-- The calls that hand back a stretch of the file or a place in it.
 --   map-at, listed-at        what stands at an index of a list made from another, and at one of an accepted file's offsets
 --   view-told                where a view's number is 1, its stretch is that cube
 --   read-on-record           where a step's number is 1, it is such a step

@@ -18,7 +18,6 @@
 --   cubeRows w bs, lentRows w bs == the tests of the two lines below
 --   cubeFault w bs              == what is wrong with the cube of w positions in as many bytes as it takes: 13, 14, or 0
 --   lentFault w bs              == the same of a lent cube, whose length may be wrong: 12, 13, 14, or 0
--- Assumes nothing: these are definitions.
 use Prim.Native.Nat.{ℕ, zero, suc, _+_, _-_, _*_, _/_, _%_, _<_}
 use mathlib.Core.List.{List, [], _∷_}
 use mathlib.Core.Bool.{Bool, true, false, not, _&&_, _||_, cond}

@@ -19,7 +19,6 @@
 --   startOf s place                     == where a step looks for a record
 --   read-on                             == one step of reading on, and the next place
 --   question                            == what the question program tells of its input
--- Assumes nothing: these are definitions.
 use Prim.Native.Nat.{ℕ, _+_, _*_}
 use mathlib.Core.List.{List}
 use mathlib.Core.Bool.{false, not, cond, _||_}

@@ -5,7 +5,6 @@
 --   faultNumber, faultOffset, offsets == the parts of a reading: the number is 0 where nothing is refused
 --   regionOf w s os        == the region of the differences at the offsets os
 --   regionIn s             == the region that the file s holds
--- Assumes nothing: these are definitions.
 use Prim.Native.Nat.{ℕ, zero, suc, _+_}
 use mathlib.Core.List.{List, [], _∷_, map}
 use mathlib.Core.Bool.{false, cond}

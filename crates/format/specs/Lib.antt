@@ -1,3 +1,4 @@
+-- What the bytes mean, what is refused, and what each call tells.
 pub mod Rows
 pub mod Limits
 pub mod Bytes

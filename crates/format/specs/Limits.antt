@@ -6,7 +6,6 @@
 --   mostDifferences   == the most differences of a region
 --   mostInput         == the most bytes that the question program reads
 --   widthKind, differenceKind   == the kinds of records
--- Assumes nothing: these are definitions.
 use Prim.Native.Nat.{ℕ, _+_, _*_, _/_}
 
 -- "A header is W bits, W from 1 to 320 (an IPv6 header is 320)."

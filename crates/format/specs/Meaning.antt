@@ -8,7 +8,6 @@
 --   cubesOf d                == the cubes of the difference d by index; 0 is the base
 --   Seen s d i v             == the stretch v of the file s is the cube of index i in its difference of index d
 --   Onward s place x         == the step x from a place gives the accepted record there, and the next place is that record's end
--- Assumes nothing: these are definitions.
 use Prim.Native.Nat.{ℕ, _+_, _≤_, _<_}
 use mathlib.Core.Path.{_≡_}
 use mathlib.Core.List.{List, [], _∷_}

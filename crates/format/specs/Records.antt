@@ -20,7 +20,6 @@
 --                               single record, and nothing may follow it
 --   u16Bytes n, cubesBytes, frontBytes k q, differenceBytes w d, differencesBytes w r, widthBytes w, fileBytes w r == what is written; the front of a
 --                               record is all that stands before its base, k cuts of q bytes
--- Assumes nothing: these are definitions.
 use Prim.Native.Nat.{ℕ, zero, suc, _+_, _-_, _*_, _/_, _%_}
 use mathlib.Core.List.{List, [], _∷_, _++_}
 use mathlib.Core.Bool.{Bool, cond}

@@ -9,7 +9,6 @@
 --   nth n k         == what row n of k gives
 --   onto f p k      == the table k, after the tests of p, whose outcomes f makes those of k; the last line of p is not asked
 --   then p k        == the same of tables of one type
--- Assumes nothing: these are definitions.
 use Prim.Native.Nat.{ℕ, zero, suc, _≤_, _<_}
 use mathlib.Core.Path.{_≡_}
 use mathlib.Core.Bool.{Bool, true, false, cond, not}

@@ -16,7 +16,6 @@
 --   writingRegion w r room == the tidied region r is to be written
 --   deciding w d           == what the decision d of a walk tells, with the header that it shows
 --   walking w n room v     == the walk v is answered with the allowance n, into a header buffer of that room
--- Assumes nothing: these are definitions.
 use Prim.Native.Nat.{ℕ}
 use mathlib.Core.Path.{_≡_}
 use mathlib.Core.List.{List, [], _∷_, _++_}

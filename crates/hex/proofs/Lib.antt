@@ -1,1 +1,2 @@
+-- The laws that the crate's proofs share.
 pub mod Writing

@@ -1,4 +1,4 @@
--- The loop that writes digits. Assumes nothing.
+-- The loop that writes digits.
 --   one-more    where the digits of i bytes are written, two stores write those of the next
 use mathlib.Core.Path.{_≡_, refl, ap}
 use mathlib.Core.List.{List, [], _∷_}

@@ -4,7 +4,6 @@
 --   withDigits old s      == a buffer that held old, with the digits of s over its front
 --   fitting s old         == how many bytes of s a buffer that held old has room for, in digits
 --   InHex s old r new     == a buffer that held old holds new, with the digits of the first bytes of s, as many as fit, over its front; r is how many digits they are
--- Assumes nothing: these are definitions.
 use Prim.Native.Nat.{ℕ, _+_, _*_, _/_, _%_, min}
 use mathlib.Core.Path.{_≡_}
 use mathlib.Core.Bool.{cond}

@@ -1,4 +1,4 @@
--- Conjunctions and disjunctions of tests, taken apart and put together. Assumes nothing.
+-- Conjunctions and disjunctions of tests, taken apart and put together.
 --   and-left, and-right, and-both, and-swap, or-none   a conjunction and its parts; four tests in pairs; neither of two
 --   less-none, none-less   nothing is in the first and not in the second exactly where all of the first is in the second
 use mathlib.Core.Path.{_≡_, refl, sym}

@@ -1,4 +1,4 @@
--- The set meaning of meeting, sharing a header and lying within. Assumes nothing.
+-- The set meaning of meeting, sharing a header and lying within.
 --   in-meet        a header is in the meet exactly when it is in both
 --   in-shown       a cube without `none` holds the header shown
 --   shares-shown, apart-none   cubes share a header exactly when their meet has no `none`, and then the shown header is one

@@ -1,4 +1,4 @@
--- Differences of w positions with u unused places behind each cube: as free positions these change nothing of what is made and walked of them. Assumes nothing.
+-- Differences of w positions with u unused places behind each cube: as free positions these change nothing of what is made and walked of them.
 --   each-padded         what is made of each
 --   tidy-padded, intersection-padded, intersections-padded, restored-padded, subtraction-padded, subtractions-padded    the operations
 --   walk-padded, region-padded, inclusion-padded    the walks

@@ -1,4 +1,4 @@
--- Cubes with unused places behind their positions: as free positions they change nothing. Assumes nothing.
+-- Cubes with unused places behind their positions: as free positions they change nothing.
 --   Lengths w cs        every cube of cs has w positions
 --   sized-lengths       cubes of w positions have them
 --   meet-pad, solid-pad, shares-pad, same-pad, within-pad, holds-pad, frees-pad    each test and operation on cubes

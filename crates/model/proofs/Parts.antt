@@ -1,4 +1,4 @@
--- Parts of a piece. Assumes nothing.
+-- Parts of a piece.
 --   Part q p                 q gives values to some of the free positions of p, and is p elsewhere
 --   part-self, part-trans    a piece is a part of itself; a part of a part is a part
 --   part-solid, part-length  a part of a cube without `none` has none, and is as long

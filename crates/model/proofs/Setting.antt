@@ -6,7 +6,7 @@
 --   in-subtractions       the same of a region less a difference
 --   good-intersection, good-intersections, good-subtraction, good-subtractions
 --                         cubes of w positions and without `none` make cubes of w positions and without `none`
--- Assumes nothing.
+--
 use Prim.Native.Nat.{ℕ}
 use mathlib.Core.Path.{_≡_, refl, sym, _∙_}
 use mathlib.Core.List.{List, [], _∷_}

@@ -1,4 +1,4 @@
--- The slips seen in training, each as the answer that it gets wrong. Slips 3 and 4 are about bytes, and P1 and P3 hold them off. Assumes nothing.
+-- The slips seen in training, each as the answer that it gets wrong. Slips 3 and 4 are about bytes, and P1 and P3 hold them off.
 use mathlib.Core.Path.{_≡_, refl}
 use mathlib.Core.List.{[], _∷_}
 use mathlib.Core.Bool.{true, false}

@@ -7,7 +7,7 @@
 --   all-append, all-each  what holds of each of two lists holds of each of them in a row; what f keeps, each f keeps
 --   sized-meet            cubes that are Sized w and share a header have a meet that is Sized w
 --   tidy-keeps, tidyRegion-keeps    what is made of Good differences by tidying is Good
--- Assumes nothing.
+--
 use Prim.Native.Nat.{ℕ}
 use native.Mathlib.Omega.{arith}
 use mathlib.Core.Path.{_≡_, refl, sym, ap, _∙_}

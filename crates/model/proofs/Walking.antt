@@ -8,7 +8,7 @@
 --   region-survivor-in, region-survivor-shown, region-nothing-in   the same for a region
 --   walk-positive    a visit counts at least one piece
 --   walk-sized, region-sized   cubes of w positions have survivors of w positions
--- Assumes nothing.
+--
 use Prim.Native.Nat.{ℕ, _≤_}
 use native.Mathlib.Omega.{arith}
 use mathlib.Core.Path.{_≡_, refl, sym, ap, subst, _∙_}

@@ -4,7 +4,6 @@
 --   restored a cs        == what the cuts cs of a subtracted difference give back of a
 --   subtraction a b      == the pieces of a less b, untidied
 --   subtractions r b     == r less b: the pieces for each difference of r in order
--- Assumes nothing: these are definitions.
 use mathlib.Core.List.{List, [], _∷_, _++_}
 use mathlib.Core.Bool.{cond}
 use Rattle.model.specs.Cube.{Cube, meet, shares}

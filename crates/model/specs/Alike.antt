@@ -2,7 +2,6 @@
 --   opensAll p c     == for each position, whether the piece p leaves free what the cut c fixes
 --   Alike cs p q     == p and q meet the same of the cuts cs, and of each that they meet they leave the same positions open
 --   SameWalk u v     == the walks u and v visit as many pieces, and in both nothing survives or in neither
--- Assumes nothing: these are definitions.
 use mathlib.Core.Path.{_≡_}
 use mathlib.Core.List.{List, [], _∷_}
 use mathlib.Core.Bool.{Bool, true}

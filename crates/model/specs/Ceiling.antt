@@ -4,7 +4,6 @@
 --   ceiling d        == the ceiling of a difference, uncapped
 --   mostPieces       == 4,294,967,295
 --   capped n         == n, or mostPieces where n is at or above it
--- Assumes nothing: these are definitions.
 use Prim.Native.Nat.{ℕ, _+_, _*_}
 use mathlib.Core.List.{List, [], _∷_}
 use mathlib.Core.Bool.{cond}

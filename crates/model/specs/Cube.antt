@@ -15,7 +15,6 @@
 --   within a b     == a lies in b
 --   shownBit x     == the bit that is shown of a code: 1 for the value 1, else 0
 --   shown c        == the header of c with all its free positions 0
--- Assumes nothing: these are definitions.
 use mathlib.Core.List.{List, [], _∷_}
 use mathlib.Core.Bool.{Bool, true, false, not, _&&_}
 

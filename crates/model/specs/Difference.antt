@@ -5,7 +5,6 @@
 --   anyHolds cs h      == the header h is in at least one of the cubes cs
 --   inDifference d h   == h is in the base and in no cut
 --   inRegion r h       == h is in at least one difference of r
--- Assumes nothing: these are definitions.
 use mathlib.Core.List.{List, [], _∷_}
 use mathlib.Core.Bool.{Bool, false, not, _&&_, _||_}
 use Rattle.model.specs.Cube.{Header, Cube, holds}

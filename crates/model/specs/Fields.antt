@@ -5,7 +5,6 @@
 --   apart w p q x y        == the cube of w positions with the code x at p and y at q
 --   unequal w p q n        == for each of n positions from p and from q on, the cut with 0 and 1, then the cut with 1 and 0
 --   equalFields w p q n    == the headers of w positions whose fields of n positions at p and at q are equal
--- Assumes nothing: these are definitions.
 use Prim.Native.Nat.{ℕ, zero, suc, _+_, _-_}
 use mathlib.Core.List.{List, [], _∷_, _++_, map}
 use mathlib.Core.Bool.{Bool, true, false, _&&_, cond, Bool·beq}

@@ -1,3 +1,4 @@
+-- Headers, cubes, differences and regions as sets, the operations on them, and the walk.
 pub mod Cube
 pub mod Difference
 pub mod Sized

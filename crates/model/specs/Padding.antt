@@ -1,7 +1,6 @@
 -- Cubes with unused places behind their positions, taken as free positions.
 --   pad u c                     == the cube c with u free places behind it
 --   padSurvivor u s, padFound u v, padDifference u d == what survived, a walk and a difference with their cubes so
--- Assumes nothing: these are definitions.
 use Prim.Native.Nat.{ℕ}
 use mathlib.Core.List.{_++_, map}
 use lib.ListN.{replicate}

@@ -2,7 +2,6 @@
 --   All P xs     == P holds of each of xs
 --   Sized w c    == the cube c has w positions, and gives each of them 0, 1 or free
 --   Good w d     == the base and the cuts of d are such cubes
--- Assumes nothing: these are definitions.
 use Prim.Native.Nat.{ℕ}
 use mathlib.Core.Path.{_≡_}
 use mathlib.Core.List.{List, [], _∷_}

@@ -4,7 +4,6 @@
 --   tidy d                == d tidied: one difference or none
 --   each f xs             == the regions that f makes of xs, one after another
 --   tidyRegion r          == r with each difference tidied
--- Assumes nothing: these are definitions.
 use mathlib.Core.List.{List, [], _∷_, _++_}
 use mathlib.Core.Bool.{Bool, false, _||_, cond}
 use Rattle.model.specs.Cube.{Cube, meet, shares, same}

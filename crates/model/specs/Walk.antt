@@ -16,7 +16,6 @@
 --   countOf d       == the count of pieces of a decision
 --   decided n s     == the decision on a walk of n pieces that came to s
 --   decide n f      == what the allowance n makes of a walk
--- Assumes nothing: these are definitions.
 use Prim.Native.Nat.{ℕ, _+_}
 use mathlib.Core.List.{List, [], _∷_, map}
 use mathlib.Core.Bool.{Bool, true, false, cond}

@@ -1,4 +1,4 @@
--- Two permitted outcomes agree: for the same lent bytes and numbers, each call's contract permits one outcome. Assumes nothing.
+-- Two permitted outcomes agree: for the same lent bytes and numbers, each call's contract permits one outcome.
 --   agree                    a call with a buffer has one outcome, whatever it tells
 --   same-result              so has a contract that says only what the result is
 --   cube-meet-agrees, .. , permit-empty-agrees    so each public call has one outcome

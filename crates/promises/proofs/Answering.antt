@@ -1,4 +1,4 @@
--- Each call answers exactly where what it was lent is accepted, and then tells this; elsewhere it refuses. Assumes nothing.
+-- Each call answers exactly where what it was lent is accepted, and then tells this; elsewhere it refuses.
 --   cube-meet-answers, cube-in-answers, wider-number-answers, diff-member-answers, region-member-answers, region-tidy-answers, diff-intersect-answers,
 --   region-intersect-answers, diff-less-answers, region-less-answers, diff-empty-answers, region-empty-answers, diff-in-answers, ceiling-answers,
 --   prefix-answers, equal-fields-answers    what each call answers, and where

@@ -1,4 +1,4 @@
--- What each public call's contract asks and permits: nothing is asked, and the outcomes of its definition are permitted and no other. Assumes nothing.
+-- What each public call's contract asks and permits: nothing is asked, and the outcomes of its definition are permitted and no other.
 --   cube-meet-met, .. , permit-empty-met            each call's code meets its contract, as the proof of its crate has it
 --   cube-meet-promise, .. , permit-empty-promise    so it is of each call, with the outcomes that its definition of specs/Calls.antt permits
 use mathlib.Core.Path.{_≡_}

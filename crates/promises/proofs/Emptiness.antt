@@ -1,4 +1,4 @@
--- Demand 3 of the calls that walk. Assumes nothing.
+-- Demand 3 of the calls that walk.
 --   diff-empty-decides, region-empty-decides, diff-in-decides    so each of them does
 --   region-at-most-ceilings, in-at-most-ceilings    the count of a region's walk, and of inclusion's, is never above those of what is walked
 use Prim.Native.Nat.{ℕ, _≤_, _<_}

@@ -1,4 +1,4 @@
--- What is handed back: the wider cube, a view's stretch, the next place of reading on. Assumes nothing.
+-- What is handed back: the wider cube, a view's stretch, the next place of reading on.
 --   wider-answers            which of two accepted cubes is handed back
 --   wider-neither            none is handed back exactly where the separate question does not say yes
 --   view-yes, view-no, view-refused    a view's number is 1 exactly there; it is 23 in any other accepted file, and else the file's refusal

@@ -1,4 +1,4 @@
--- What is promised of every call, under document 01's words. Each theorem is proved by citing the module that did the work. Assumes nothing.
+-- What is promised of every call, under document 01's words. Each theorem is proved by citing the module that did the work.
 --
 -- Who believes these words and reads this page knows what is proved; each stands in a file of specs that opens with its glossary:
 --   model/specs              headers, cubes, differences, regions (Header, holds, inDifference, inRegion), the operations, the walk, its ceiling

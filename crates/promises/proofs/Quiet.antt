@@ -1,4 +1,4 @@
--- What each call leaves untouched. Assumes nothing.
+-- What each call leaves untouched.
 --   Mute k               == no row of the table k writes or counts anything, but for its last line
 --   LastLine P k         == P holds of the last line of k where every test fails
 --   told-by              what holds of all that writes and counts nothing, and of the last line, holds of what such a table gives

@@ -8,7 +8,7 @@
 --   Prefixed w s n m value   == W, the field, the prefix length and the value are in their bounds
 --   Fields w p q n           == W and the two fields are in their bounds, and n is at most 32 where the starts differ
 --   Indexed s d i            == the file s is accepted, and has a difference of index d with a cube of index i
--- Assumes nothing: these are definitions. A single record's is `Lent`, of format.
+-- A single record's is `Lent`, of format.
 use Prim.Native.Nat.{ℕ, _+_, _≤_, _<_}
 use mathlib.Core.Path.{_≡_}
 use mathlib.Core.List.{List}

@@ -4,7 +4,6 @@
 --                               no, with one shown, exactly where there is one; it is undecided exactly where the walk has more pieces than the
 --                               allowance; its count is the walk's pieces, or where it is undecided the allowance
 --   ceilings r               == the ceilings of the differences of r, added up
--- Assumes nothing: these are definitions.
 use Prim.Native.Nat.{ℕ, _+_, _≤_, _<_}
 use mathlib.Core.Path.{_≡_}
 use mathlib.Core.List.{[], _∷_}

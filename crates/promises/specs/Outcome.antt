@@ -9,7 +9,6 @@
 --   Kept room x              == x is told by a call that was lent a buffer of that room: it writes nothing where it refuses, says yes or is undecided, and
 --                               counts nothing where it refuses; what it writes is as long as its result says, and fits
 --   Unwritten r              == the result r is a refusal, yes or undecided
--- Assumes nothing: these are definitions.
 use Prim.Native.Nat.{ℕ, _≤_}
 use mathlib.Core.Path.{_≡_}
 use mathlib.Core.List.{List}

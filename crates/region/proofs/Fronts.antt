@@ -1,4 +1,4 @@
--- The front of a record. Assumes nothing.
+-- The front of a record.
 --   tail             the part of a slice from an offset to its end
 --   front-here       what is read behind an offset is the front there
 --   front-end        so is nothing at the end

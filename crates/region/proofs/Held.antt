@@ -1,4 +1,4 @@
--- Asking a record for a header by bytes: one turn of the question, and what the answer means. Assumes nothing.
+-- Asking a record for a header by bytes: one turn of the question, and what the answer means.
 --   any-none, any-here, any-next     no cube left; the header is in the first cube; it is not, so the others decide
 --   record-short, record-out, record-in   too few bytes lent; not in the base; in the base, so the cuts decide
 --   record-member, file-member   of an accepted record, or of those of an accepted file, the answer is whether the header is in the difference, or in

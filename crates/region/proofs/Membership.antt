@@ -1,4 +1,4 @@
--- Membership as it is asked from outside, from the parts that answer it. Assumes nothing.
+-- Membership as it is asked from outside, from the parts that answer it.
 --   header-asked     of a header that has a fault nothing more is looked at
 --   diff-told        a record without fault: what it is told of the header spelled is the call's outcome
 --   region-told      a file without fault: the same of what the reader found

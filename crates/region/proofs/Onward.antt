@@ -1,5 +1,5 @@
 -- Stepping through an accepted file by its records' lengths. A loop `while at < s.len() { .. at = front_at(s, at).next; }` has the invariant
--- `AllAccepted w s at`, beside what it says of `regionAhead w s at`, the region of the differences still to come. Assumes nothing.
+-- `AllAccepted w s at`, beside what it says of `regionAhead w s at`, the region of the differences still to come.
 --   ahead-end, ahead-next       the offsets from an offset on: none at the end; else this one and those from the next record on
 --   region-end, region-next     their region
 --   listed-ahead                of accepted records they are those that are listed

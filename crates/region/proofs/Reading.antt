@@ -1,5 +1,5 @@
 -- Reading a file record by record: where the reader is, one turn, and what it gives back at a refusal and at the end. What is done at each accepted
--- record is said of the offsets passed. Assumes nothing.
+-- record is said of the offsets passed.
 --   Reached s at n           the reader is at an offset, after n accepted records, which it passed
 --   begun                    so it is after kind 1
 --   turned                   and after a record more

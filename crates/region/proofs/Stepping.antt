@@ -1,5 +1,5 @@
 -- Reading on from place 0, step after step. Reading on does not count the differences, so a file that is refused with 19 is read on past its 256th
--- difference: what comes after the differences before the refused record is said for every other refusal. Assumes nothing.
+-- difference: what comes after the differences before the refused record is said for every other refusal.
 --   accepted-steps    an accepted file's steps give each difference once, in order, at its record's offset, and then 2 for ever
 --   passed-steps      a refused file's first steps give the differences before the refused record so
 --   refused-steps     and then, but for 19, that refusal for ever

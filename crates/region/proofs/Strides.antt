@@ -1,4 +1,4 @@
--- Stepping through numbers. Assumes nothing.
+-- Stepping through numbers.
 --   steps-end, steps-turn      stepping at the end, and before it, where each step goes on
 use Prim.Native.Nat.{ℕ, zero, suc, _+_, _-_, _≤_, _<_}
 use native.Mathlib.Omega.{arith}

@@ -1,4 +1,4 @@
--- Views, from the parts that find them. `at` is the offset that `seek` gives for the difference d, and an accepted record stands there. Assumes nothing.
+-- Views, from the parts that find them. `at` is the offset that `seek` gives for the difference d, and an accepted record stands there.
 --   view-fault, view-none, view-beyond, view-cube    the outcome where the file is refused, where it has no such difference, where that has no such cube, and else
 --   view-room        the cube lies within the file
 use Prim.Native.Nat.{ℕ, zero, suc, _+_, _*_, _≤_, _<_}

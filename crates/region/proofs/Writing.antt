@@ -1,4 +1,4 @@
--- Records, as they are written. Assumes nothing.
+-- Records, as they are written.
 --   all-bytes      a list whose every element is below 256 holds bytes
 --   write-codes, row-bytes    the codes of bytes, and a row of cubes, are written as those bytes
 --   front-length   how long the front is

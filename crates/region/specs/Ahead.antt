@@ -3,7 +3,6 @@
 --   steps next end x   == the numbers from x on, each by `next` from the one before, that are below `end`
 --   ahead s at         == the offsets of the records from an offset on, as their lengths say
 --   regionAhead w s at == the region of the differences at these offsets
--- Assumes nothing: these are definitions.
 use Prim.Native.Nat.{ℕ, zero, suc, _-_}
 use mathlib.Core.List.{List, [], _∷_}
 use mathlib.Core.Bool.{cond}

@@ -4,7 +4,6 @@
 --   heldBy q h s a k    == they lie in the first cube from an offset on and in none of the k after it
 --   inRecord w h s at   == so it is of the base and the cuts of the record at an offset
 --   anyRecord w h s os  == so it is of a record at one of the offsets os
--- Assumes nothing: these are definitions.
 use Prim.Native.Nat.{ℕ, zero, suc, _+_}
 use mathlib.Core.List.{List, [], _∷_}
 use mathlib.Core.Bool.{Bool, false, not, _&&_, _||_}

@@ -3,7 +3,6 @@
 --   FrontIs s at f      == f is that front
 --   Stands q s f        == a record of a difference stands in s with the front f, its cubes of q bytes each
 --   wholeDifference q s f == its difference, of whole bytes
--- Assumes nothing: these are definitions.
 use Prim.Native.Nat.{ℕ, _+_, _*_, _≤_, min}
 use mathlib.Core.Path.{_≡_}
 use mathlib.Core.List.{List}

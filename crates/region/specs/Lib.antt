@@ -1,3 +1,4 @@
+-- The words of the contracts of records and region files.
 pub mod Front
 pub mod Ahead
 pub mod Asked

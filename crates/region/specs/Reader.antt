@@ -4,7 +4,6 @@
 --   refusal number at w     == a refused file's parts
 --   AskedIs s h r           == r is what reading the file s gives, and whether what h spells is in one of its differences; a refused file has none
 --   unasked number at w     == a refused file's parts
--- Assumes nothing: these are definitions.
 use Prim.Native.Nat.{ℕ}
 use mathlib.Core.Path.{_≡_}
 use mathlib.Core.List.{List}

@@ -5,7 +5,6 @@
 --   told n r            == the answers of n steps of the reader r
 --   beforeAt at os      == the offsets that stand before the first one that is not below an offset
 --   recordsBefore s at  == the offsets of the records of the file s that stand before an offset, as their lengths say
--- Assumes nothing: these are definitions.
 use Prim.Native.Nat.{ℕ, zero, suc}
 use mathlib.Core.List.{List, [], _∷_}
 use mathlib.Core.Bool.{cond}

@@ -3,7 +3,6 @@
 --   StretchIs s d i r  == r is the stretch of the file that s lends which the view of cube i of difference d has: its bytes, and that it lies there, in
 --                         the caller's own buffer
 --   stepped r          == the parts of a Step as the definition of reading on has them
--- Assumes nothing: these are definitions.
 use Prim.Native.Nat.{ℕ, _+_}
 use mathlib.Core.Path.{_≡_}
 use mathlib.Core.List.{List}

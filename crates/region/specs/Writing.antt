@@ -8,7 +8,6 @@
 --   frontRows, putRows     == the tests of the next two lines
 --   putFront old k q       == a buffer that held old, with the front over its own; old where it does not fit, or where k or q is above its limit
 --   putRecord old cubes k q == the same of the whole record; old also where there are fewer cubes
--- Assumes nothing: these are definitions.
 use Prim.Native.Nat.{ℕ, _+_, _*_}
 use mathlib.Core.List.{List, _++_}
 use lib.ListN.{length, take}

@@ -1,4 +1,4 @@
--- Cubes of bytes brought into words, and back. Assumes nothing.
+-- Cubes of bytes brought into words, and back.
 --   padded-inside, padded-behind, padded-long, padded-codes   the bytes of a cube with free places behind it
 --   holds-none, holds-more, holds-free   a word takes one byte more; a word behind the bytes
 --   words-hold               words that hold 80 bytes have their codes

@@ -1,4 +1,4 @@
--- The cuts that stand in bytes, and a visit with them. Assumes nothing.
+-- The cuts that stand in bytes, and a visit with them.
 --   room                     n cuts of q bytes: the first, and the others
 --   cuts-passed, cuts-met, cuts-none   a visit with them: the next cut shares no header, shares one, or there is none
 use Prim.Native.Nat.{ℕ, suc, _+_, _*_, _≤_}

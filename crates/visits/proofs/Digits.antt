@@ -1,4 +1,4 @@
--- Digits of numbers. Assumes nothing.
+-- Digits of numbers.
 --   same-or-not, below-or   two numbers are the same or not; one is below the other or not
 --   or-none, xor-none       what `|` and `^` leave 0
 --   digit-and, digit-xor    the digits of base 2 of `&` and `^`; place-and, place-or: those of base 4 of `&` and `|`

@@ -1,4 +1,4 @@
--- The tables of a long walk. Assumes nothing.
+-- The tables of a long walk.
 --   DigitMore, digit-more     a number takes a digit above all that it has
 --   free-words                words of all digits are a cube of free positions
 --   enter-fits, enter-turn, enter-end   a cut is entered, position by position

@@ -1,4 +1,4 @@
--- Bytes and the places that open. Assumes nothing.
+-- Bytes and the places that open.
 use Prim.Native.Nat.{ℕ, suc, _+_, _*_, _/_, _%_, _≤_, _<_}
 use native.Mathlib.Omega.{arith}
 use mathlib.Core.Path.{_≡_, refl, _∙_}

@@ -1,4 +1,4 @@
--- The cuts that a piece meets, as a word. Assumes nothing.
+-- The cuts that a piece meets, as a word.
 --   child-shares        a cut meets a child where it meets the piece and does not fix the position to another value
 --   alive-child         so the digits of a child are those of the piece less those against it
 --   alive-fewer         the digits below the highest one are those of the cuts after that one

@@ -1,4 +1,4 @@
--- One turn of a visit over words: the first position that the cut opens takes a value. Assumes nothing.
+-- One turn of a visit over words: the first position that the cut opens takes a value.
 --   Opened, opened        what is known of that position
 --   took-cube, took-alive the piece with a value there, and the cuts that it meets
 --   later-first           then the next position is a later one

@@ -1,4 +1,4 @@
--- Where a cut opens a piece, and the pieces to visit. Assumes nothing.
+-- Where a cut opens a piece, and the pieces to visit.
 --   first-opens      the first position that opens does
 --   first-most       it is a position, or as many as there are
 --   children-first   the pieces to visit: the one that differs there, and then those of the piece that agrees there

@@ -1,4 +1,4 @@
--- Walks that are paid for as a whole. Assumes nothing.
+-- Walks that are paid for as a whole.
 --   pays-short, pays-whole   a walk of k pieces in which nothing survives, on an allowance
 --   covered-finds            a walk that an allowance paid and that is covered
 use Prim.Native.Nat.{ℕ, _+_, _-_, _≤_, _<_}

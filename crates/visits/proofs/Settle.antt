@@ -1,4 +1,4 @@
--- Paying the pieces of walks out of an allowance. Assumes nothing.
+-- Paying the pieces of walks out of an allowance.
 --   settle-le, settle-lt    the allowance pays every piece, or it does not
 --   settle-on               n pieces are paid for and nothing survived: the rest goes on with what is left
 --   settle-zero, settle-none   nothing is left to visit; no piece can be paid for

@@ -1,4 +1,4 @@
--- Walks that are remembered. Assumes nothing.
+-- Walks that are remembered.
 --   code-or               the codes of `|`
 --   alike-below           pieces that meet the same cuts, and are alike where one of those fixes a value, are alike
 --   like-words            a piece in words fits a slot

@@ -1,4 +1,4 @@
--- One turn of a visit's loop, on bytes: the position i is the first that the cut opens, and n the number of the cut's code there. Assumes nothing.
+-- One turn of a visit's loop, on bytes: the position i is the first that the cut opens, and n the number of the cut's code there.
 --   front-length, front-cube   the first q bytes of a piece, as they are lent
 --   cube-length, cut-length    a cube of q bytes has 4 * q positions
 --   piece-given                a piece with the code v at a position, whatever part of it is looked at

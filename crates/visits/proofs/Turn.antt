@@ -1,4 +1,4 @@
--- What a visit does, in plain terms: how it begins, and one turn of its loop over the positions that the cut opens. Assumes nothing.
+-- What a visit does, in plain terms: how it begins, and one turn of its loop over the positions that the cut opens.
 use Prim.Native.Nat.{ℕ, suc, _+_, _≤_, _<_}
 use native.Mathlib.Omega.{arith}
 use mathlib.Core.Path.{_≡_, refl, sym, ap, _∙_}

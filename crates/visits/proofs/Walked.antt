@@ -1,4 +1,4 @@
--- What is walked, and what is not. Assumes nothing.
+-- What is walked, and what is not.
 --   possible-fits, fits-possible   a walk can be exactly where it fits
 --   walked-idle                    one that cannot be visits nothing
 --   walked-settles                 one that can be is settled

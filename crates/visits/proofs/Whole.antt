@@ -1,4 +1,4 @@
--- The walk over words is the walk over bytes. Assumes nothing.
+-- The walk over words is the walk over bytes.
 --   loaded-cuts       the rows are the cuts, with free places behind them
 --   loaded-alive      what the base meets of them
 --   first-passed      a cut before the last 64

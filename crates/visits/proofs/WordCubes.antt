@@ -1,4 +1,4 @@
--- Cubes in words. Assumes nothing.
+-- Cubes in words.
 --   words-length, words-at    the length of a cube in words, and its code at a position
 --   words-ext                words that have the codes of a cube are that cube
 --   words-given              a free position takes a value

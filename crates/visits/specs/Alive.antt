@@ -5,7 +5,6 @@
 --   AgainstAt cuts n i v x == of the n cuts left, x has among its digits those that fix position i to another value than v
 --   Against cuts n rows    == the table that has such words for position i at 2 i for the value 0, and after it for the value 1
 --   First n b r            == r is whether there is a cut before the last 64 of n, and it is met, as b says
--- Assumes nothing: these are definitions.
 use Prim.Native.Nat.{ℕ, suc, _+_, _*_, _/_, _%_, _^_, _≤_, _<_}
 use mathlib.Core.Path.{_≡_}
 use mathlib.Core.Bool.{Bool, true, false}

@@ -1,7 +1,6 @@
 -- Cubes as the walk has them: whole bytes, so that an unused place is one more free position, which changes nothing.
 --   Given p i v r      == the 80 bytes r are the piece p with the code v at position i
 --   Skipped            == from (at, n) a visit of p may pass to (to, m): each cut on the way shares no header with p
--- Assumes nothing: these are definitions.
 use Prim.Native.Nat.{ℕ, _+_, _*_, _≤_, _<_}
 use mathlib.Core.Path.{_≡_}
 use mathlib.Core.List.{List}

@@ -1,3 +1,4 @@
+-- The words of the contracts of visits.
 pub mod Cuts
 pub mod Opening
 pub mod Settle

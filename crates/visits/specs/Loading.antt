@@ -5,7 +5,6 @@
 --   Loaded q s at n cuts  == the rows of the table are those cuts, with free places behind their positions
 --   Entered ..            == for each position and value, `one` was added where the value clashes with the cut
 --   Met q s at n p x      == x has the digits of the cuts that p meets
--- Assumes nothing: these are definitions.
 use Prim.Native.Nat.{ℕ, suc, _+_, _-_, _*_, _/_, _%_, _^_, _<_}
 use mathlib.Core.Path.{_≡_}
 use mathlib.Core.List.{List, _++_}

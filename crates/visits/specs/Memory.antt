@@ -9,7 +9,6 @@
 --   Lies ws c           == the cube in the words ws lies in the cube c
 --   Common cuts x ws    == it lies in each of the cuts that x has a digit of
 --   Slot                == the words of a slot
--- Assumes nothing: these are definitions.
 use Prim.Native.Nat.{ℕ, _+_, _<_}
 use mathlib.Core.Path.{_≡_}
 use mathlib.Core.List.{List, []}

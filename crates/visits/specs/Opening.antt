@@ -5,7 +5,6 @@
 --   quads a b c d      == the number with the digits a, b, c and d of base 4, 1 where one is true
 --   marks f x          == the number with a digit for each place of the byte x: 1 where f holds of its code
 --   openings x y       == the same for each place where a cut's byte y opens a piece's byte x
--- Assumes nothing: these are definitions.
 use Prim.Native.Nat.{ℕ, suc, _+_, _*_, _/_, _%_}
 use mathlib.Core.List.{[], _∷_}
 use mathlib.Core.Bool.{Bool, true, false, cond}

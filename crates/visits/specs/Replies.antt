@@ -3,7 +3,6 @@
 --   survives p   == the walk of a piece that no cut meets
 --   Pays k a r   == the reply r says what paying a walk of k pieces in which nothing survives comes to
 --   InBytes r o  == the outcome o is the reply r with its piece in bytes
--- Assumes nothing: these are definitions.
 use Prim.Native.Nat.{ℕ}
 use mathlib.Core.Path.{_≡_}
 use Rattle.model.specs.Cube.{Cube}

@@ -9,7 +9,6 @@
 --   leftFrom f c a p   == what is left to visit of a piece that a cut c meets, on the allowance a: p agrees with c where its pieces were visited
 --   decisionOf v n p   == the decision of a verdict, with its count and its piece
 --   decision d         == what a walk that began with nothing spent comes to
--- Assumes nothing: these are definitions.
 use Prim.Native.Nat.{ℕ, _+_, _-_}
 use mathlib.Core.List.{[]}
 use mathlib.Core.Bool.{cond}

@@ -5,7 +5,6 @@
 --   idle a                     == nothing is visited: undecided, and the allowance a is as it was
 --   walked q piece s at left a == the walk of the piece in the first q bytes of `piece`, with the `left` cuts of q bytes that stand in s from `at` on
 --   Resumed a r o              == the outcome o is the outcome r, with what it leaves of the allowance a
--- Assumes nothing: these are definitions.
 use Prim.Native.Nat.{ℕ, _+_, _-_, _*_}
 use mathlib.Core.Path.{_≡_}
 use mathlib.Core.List.{List, []}

@@ -9,7 +9,6 @@
 --   Openings x y t     == the word t has the digit 1 of base 4 at each place where the cut's word y opens the piece's word x, else 0
 --   GivenWord x k v r  == the word r is the word x with the code v at place k
 --   eitherCode x y     == what the code x or the code y admits
--- Assumes nothing: these are definitions.
 use Prim.Native.Nat.{ℕ, zero, suc, _-_, _*_, _/_, _%_, _^_, _<_}
 use mathlib.Core.Path.{_≡_}
 use mathlib.Core.List.{List, [], _∷_}

@@ -1,4 +1,4 @@
--- The walk over the bytes of an accepted record is the model's walk of its difference, and what its outcome tells. Assumes nothing.
+-- The walk over the bytes of an accepted record is the model's walk of its difference, and what its outcome tells.
 --   record-walk, record-ceiling    the walk over the bytes, with the unused places behind each cube, and the ceiling
 --   outcome-told         that is what is told of the walk, where the outcome is that of a fresh allowance
 use Prim.Native.Nat.{ℕ, _*_, _≤_}

@@ -1,4 +1,4 @@
--- What the calls on emptiness tell, test by test. Assumes nothing.
+-- What the calls on emptiness tell, test by test.
 --   diff-room, diff-told             the call `diff_empty` of an accepted record: the room is too short; it is not
 --   region-room, region-told         the call `region_empty` of an accepted file
 --   wholeWalk w r                    the walk of a region of w positions over whole bytes

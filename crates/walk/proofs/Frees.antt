@@ -1,4 +1,4 @@
--- Counting the positions that a cut fixes and the base leaves free, and the ceiling cut by cut from the last one on. Assumes nothing.
+-- Counting the positions that a cut fixes and the base leaves free, and the ceiling cut by cut from the last one on.
 --   count-append, count-most   the free positions of two cubes in a row; no more than there are positions
 --   frees-count                they are those that are free in the base and not in the meet
 --   count-turn, met-turn       one byte more of the base, and of the meet

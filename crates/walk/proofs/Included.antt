@@ -1,4 +1,4 @@
--- What the call on inclusion tells of two accepted records. Assumes nothing.
+-- What the call on inclusion tells of two accepted records.
 --   in-room, in-told    the room is too short; it is not
 use Prim.Native.Nat.{ℕ, _≤_, _<_}
 use native.Mathlib.Omega.{arith}

@@ -1,4 +1,4 @@
--- Cuts that are copied elsewhere, and the meet of two cubes as a piece. Assumes nothing.
+-- Cuts that are copied elsewhere, and the meet of two cubes as a piece.
 --   cuts-gathered              cuts that are copied, and one cut that is copied behind them
 --   met-piece                  the meet of two cubes of q bytes, written over the front of a piece
 use Prim.Native.Nat.{ℕ, _+_, _-_, _*_, _≤_}

@@ -1,4 +1,4 @@
--- Cubes of a record as pieces, and the ceiling of its difference. Assumes nothing.
+-- Cubes of a record as pieces, and the ceiling of its difference.
 --   ceiling-told               what the call `ceiling` tells of an accepted record
 --   loaded                     bytes that are copied hold the cube
 use Prim.Native.Nat.{ℕ}

@@ -1,4 +1,4 @@
--- The walk of "a in b": the first piece, and what the cuts of b give back of a. Assumes nothing.
+-- The walk of "a in b": the first piece, and what the cuts of b give back of a.
 --   back-apart, back-met       what a cut gives back: nothing, or the meet less the cuts of a
 --   restored-cut, restored-none   what cuts give back that stand in bytes: the next cut, and the others; or none is left
 use Prim.Native.Nat.{ℕ, suc, _+_}

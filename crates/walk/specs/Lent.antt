@@ -2,7 +2,6 @@
 --   Pair q s f t g     == records with the fronts f in s and g in t stand there, their cubes of q bytes each
 --   lessCuts q s f t g == the cuts of the first piece of "s less t": those of s, and then the base of t
 --   walkBack a c       == the walk of what a cut c of a subtracted difference gives back of a
--- Assumes nothing: these are definitions.
 use Prim.Native.Nat.{ℕ, _≤_}
 use mathlib.Core.List.{List, [], _∷_, _++_}
 use mathlib.Core.Bool.{cond}

@@ -1,2 +1,3 @@
+-- The words of the walk's contracts.
 pub mod Lent
 pub mod Tell

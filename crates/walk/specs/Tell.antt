@@ -1,6 +1,5 @@
 -- What a call tells of the outcome of a walk.
 --   toldOf w v n bs    == the verdict v with n pieces spent, and the header of w positions that the piece bs shows where it survives
--- Assumes nothing: these are definitions.
 use Prim.Native.Nat.{ℕ}
 use mathlib.Core.List.{List}
 use lib.ListN.{take}

@@ -1,4 +1,4 @@
--- `desk::answer_all` meets its contract. The number of turns left falls; what is read stays sound and the lent buffers keep their lengths. Assumes nothing.
+-- `desk::answer_all` meets its contract. The number of turns left falls; what is read stays sound and the lent buffers keep their lengths.
 use Rattle.desk.specs.Reading.{Sound}
 use mathlib.Core.Path.{_≡_}
 use lib.ListN.{length}

@@ -1,4 +1,4 @@
--- `hex::write` meets its contract. The loop's invariant: the digits of the first i bytes are written. Assumes nothing.
+-- `hex::write` meets its contract. The loop's invariant: the digits of the first i bytes are written.
 use Prim.Native.Nat.{_-_, _≤_}
 use native.Mathlib.Numerals.{add-one}
 use native.Mathlib.Omega.{arith}

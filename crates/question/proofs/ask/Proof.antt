@@ -1,4 +1,4 @@
--- `question::ask` meets its contract. Assumes nothing.
+-- `question::ask` meets its contract.
 use Prim.Native.Nat.{ℕ, _≤_}
 use mathlib.Core.Path.{_≡_, ap, _∙_}
 use mathlib.Core.List.{List}

@@ -1,4 +1,4 @@
--- `algebra::call::region_intersect` meets its contract. Assumes nothing.
+-- `algebra::call::region_intersect` meets its contract.
 use mathlib.Core.Path.{_≡_, sym, _∙_}
 use borrow.Author.Needs.{needs}
 use Rattle.format.specs.Records.{widthOf}

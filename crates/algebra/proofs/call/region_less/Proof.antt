@@ -1,4 +1,4 @@
--- `algebra::call::region_less` meets its contract. Assumes nothing.
+-- `algebra::call::region_less` meets its contract.
 use mathlib.Core.Path.{_≡_, refl, _∙_}
 use borrow.Author.Needs.{needs}
 use Rattle.format.specs.Rows.{outcome}

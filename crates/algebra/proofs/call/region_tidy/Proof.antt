@@ -1,4 +1,4 @@
--- `algebra::call::region_tidy` meets its contract. Assumes nothing.
+-- `algebra::call::region_tidy` meets its contract.
 use borrow.Author.Needs.{needs}
 use Rattle.format.specs.Calls.{region-tidy}
 use Rattle.format.proofs.Lending.{silent-out, told-out}

@@ -1,4 +1,4 @@
--- `algebra::compare::one_of` meets its contract. Assumes nothing.
+-- `algebra::compare::one_of` meets its contract.
 use Prim.Native.Nat.{_+_, _*_, _≤_}
 use native.Mathlib.Omega.{arith}
 use mathlib.Core.Path.{_≡_, refl, sym, _∙_}

@@ -1,4 +1,4 @@
--- `algebra::piece::make` meets its contract. Assumes nothing.
+-- `algebra::piece::make` meets its contract.
 use Prim.Native.Nat.{ℕ, _+_, _-_, _*_, _≤_}
 use native.Mathlib.Omega.{arith}
 use native.Mathlib.Nat.{mul-le-mul}

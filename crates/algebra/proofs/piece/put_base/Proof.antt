@@ -1,4 +1,4 @@
--- `algebra::piece::put_base` meets its contract. Assumes nothing.
+-- `algebra::piece::put_base` meets its contract.
 use Prim.Native.Nat.{_+_, _≤_}
 use native.Mathlib.Omega.{arith}
 use mathlib.Core.Bool.{true}

@@ -1,4 +1,4 @@
--- `algebra::result::write_region` meets its contract. Assumes nothing.
+-- `algebra::result::write_region` meets its contract.
 use Prim.Native.Nat.{ℕ, _*_}
 use native.Mathlib.Omega.{arith}
 use mathlib.Core.Path.{_≡_, refl, sym, _∙_}

@@ -1,4 +1,4 @@
--- `algebra::run::add` meets its contract. Assumes nothing.
+-- `algebra::run::add` meets its contract.
 use native.Mathlib.Omega.{arith}
 use borrow.Author.Needs.{needs}
 use Rattle.cube.proofs.Wholes.{row-length}

@@ -1,4 +1,4 @@
--- `algebra::run::put_behind` meets its contract. Assumes nothing.
+-- `algebra::run::put_behind` meets its contract.
 use Prim.Native.Nat.{_+_, _-_, _*_, _≤_}
 use native.Mathlib.Omega.{arith}
 use mathlib.Core.Path.{refl, _∙_}

@@ -1,4 +1,4 @@
--- `algebra::run::run` meets its contract. Assumes nothing.
+-- `algebra::run::run` meets its contract.
 use Prim.Native.Nat.{_+_, _-_, _*_}
 use native.Mathlib.Omega.{arith}
 use mathlib.Core.Path.{_≡_, refl, sym, ap, ap₂, _∙_}

@@ -1,4 +1,4 @@
--- `algebra::stop::stop_at` meets its contract. Assumes nothing.
+-- `algebra::stop::stop_at` meets its contract.
 use native.Mathlib.Omega.{arith}
 use mathlib.Core.Path.{refl}
 use borrow.Author.Tests.{eq-eqb, ne-eqb}

@@ -1,4 +1,4 @@
--- `algebra::tidying::take_cut` meets its contract. Assumes nothing.
+-- `algebra::tidying::take_cut` meets its contract.
 use Prim.Native.Nat.{ℕ, _-_}
 use native.Mathlib.Omega.{arith}
 use mathlib.Core.List.{List}

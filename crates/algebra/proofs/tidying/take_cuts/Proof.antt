@@ -1,4 +1,4 @@
--- `algebra::tidying::take_cuts` meets its contract. Assumes nothing.
+-- `algebra::tidying::take_cuts` meets its contract.
 use Prim.Native.Nat.{_+_, _*_, _≤_}
 use native.Mathlib.Omega.{arith}
 use mathlib.Core.Path.{_≡_, _∙_}

@@ -1,4 +1,4 @@
--- `cube::cube_meet` meets its contract. Assumes nothing.
+-- `cube::call::cube_meet` meets its contract.
 use Prim.Native.Nat.{_≤_}
 use native.Mathlib.Omega.{arith}
 use mathlib.Core.Path.{refl, sym, ap, _∙_}

@@ -1,4 +1,4 @@
--- `cube::pair_refusal` meets its contract: each return is a row of its table. Assumes nothing.
+-- `cube::call::pair_refusal` meets its contract: each return is a row of its table.
 use Prim.Native.Nat.{ℕ}
 use native.Mathlib.Omega.{arith}
 use mathlib.Core.Path.{ap, _∙_}

@@ -1,4 +1,4 @@
--- `cube::wider` meets its contract: the very references come back. Assumes nothing.
+-- `cube::call::wider` meets its contract: the very references come back.
 use mathlib.Core.Path.{refl, sym, _∙_}
 use borrow.Author.Needs.{needs}
 use Rattle.cube.proofs.Calling.{wider-refused, wider-first, wider-second, wider-neither, is-first, is-second, is-neither}

@@ -1,4 +1,4 @@
--- `cube::code::code_number` meets its contract. Assumes nothing.
+-- `cube::code::code_number` meets its contract.
 use native.Mathlib.Omega.{arith}
 use borrow.Author.Needs.{needs}
 use Rattle.cube.proofs.Coded.{code-above}

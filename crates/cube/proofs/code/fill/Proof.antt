@@ -1,4 +1,4 @@
--- `cube::code::fill` meets its contract. Assumes nothing.
+-- `cube::code::fill` meets its contract.
 use Prim.Native.Nat.{_-_, _≤_}
 use native.Mathlib.Omega.{arith}
 use mathlib.Core.Path.{_≡_, refl, _∙_}

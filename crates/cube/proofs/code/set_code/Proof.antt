@@ -1,4 +1,4 @@
--- `cube::set_code` meets its contract. Assumes nothing.
+-- `cube::code::set_code` meets its contract.
 use Prim.Native.Nat.{_+_, _-_, _*_, _/_, _%_, _^_, _≤_, _<_}
 use native.Mathlib.Omega.{arith}
 use mathlib.Core.Path.{_≡_, sym, ap, _∙_}

@@ -1,4 +1,4 @@
--- `cube::compare::equal` meets its contract. Assumes nothing.
+-- `cube::compare::equal` meets its contract.
 use Prim.Native.Nat.{_-_, _≤_}
 use native.Mathlib.Omega.{arith}
 use mathlib.Core.Path.{_≡_, refl, sym}

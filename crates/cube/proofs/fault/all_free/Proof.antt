@@ -1,4 +1,4 @@
--- `cube::all_free` meets its contract: what differs from 255 is gathered, and is 0 at the end. Assumes nothing.
+-- `cube::fault::all_free` meets its contract: what differs from 255 is gathered, and is 0 at the end.
 use mathlib.Core.Path.{_≡_, refl}
 use mathlib.Core.Bool.{_&&_}
 use Prim.Native.Nat.{_-_, _≤_}

@@ -1,4 +1,4 @@
--- `cube::byte_fault` meets its contract. Assumes nothing.
+-- `cube::fault::byte_fault` meets its contract.
 use mathlib.Core.Path.{sym, _∙_}
 use borrow.Author.Needs.{needs}
 use Rattle.format.proofs.Reached.{reached}

@@ -1,4 +1,4 @@
--- `cube::cube_fault` meets its contract: each return is a row of `partRows`. Assumes nothing.
+-- `cube::fault::cube_fault` meets its contract: each return is a row of `partRows`.
 use mathlib.Core.Path.{_≡_, sym, ap, _∙_}
 use mathlib.Core.List.{List}
 use mathlib.Core.Bool.{Bool, true, false, not}

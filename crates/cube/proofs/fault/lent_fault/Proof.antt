@@ -1,4 +1,4 @@
--- `cube::lent_fault` meets its contract. Assumes nothing.
+-- `cube::fault::lent_fault` meets its contract.
 use mathlib.Core.Path.{sym, _∙_}
 use borrow.Author.Needs.{needs}
 use Rattle.cube.proofs.Faults.{lent-length, lent-cube}

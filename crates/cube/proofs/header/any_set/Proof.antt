@@ -1,4 +1,4 @@
--- `cube::any_set` meets its contract: the bits are gathered, and are 0 at the end exactly when none is set. Assumes nothing.
+-- `cube::header::any_set` meets its contract: the bits are gathered, and are 0 at the end exactly when none is set.
 use mathlib.Core.Path.{_≡_, refl, ap, _∙_}
 use mathlib.Core.Bool.{Bool·not-not, not, _&&_}
 use Prim.Native.Nat.{_-_, _≤_}

@@ -1,4 +1,4 @@
--- `cube::bits_after` meets its contract. Assumes nothing.
+-- `cube::header::bits_after` meets its contract.
 use mathlib.Core.Path.{_≡_, sym, ap, _∙_}
 use mathlib.Core.List.{List, [], _∷_}
 use Prim.Native.Nat.{ℕ, _/_, _%_}

@@ -1,4 +1,4 @@
--- `cube::bits_refusal` meets its contract: each return is a row of its table. Assumes nothing.
+-- `cube::header::bits_refusal` meets its contract: each return is a row of its table.
 use mathlib.Core.Path.{sym, _∙_}
 use borrow.Author.Needs.{needs}
 use Rattle.format.proofs.Reached.{reached}

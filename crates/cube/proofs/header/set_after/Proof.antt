@@ -1,4 +1,4 @@
--- `cube::set_after` meets its contract. Assumes nothing.
+-- `cube::header::set_after` meets its contract.
 use borrow.Author.Needs.{needs}
 use Rattle.cube.proofs.Headers.{ones-after}
 use Rattle.cube.proofs.header.set_after.Statement.{statement}

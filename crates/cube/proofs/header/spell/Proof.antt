@@ -1,4 +1,4 @@
--- `cube::spell` meets its contract: the table's rule is one test that antt computes at all 16 entries. Assumes nothing.
+-- `cube::header::spell` meets its contract: the table's rule is one test that antt computes at all 16 entries.
 use mathlib.Core.List.{List, [], _∷_}
 use mathlib.Core.Bool.{Bool}
 use Prim.Native.Nat.{ℕ}

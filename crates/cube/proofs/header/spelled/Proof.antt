@@ -1,4 +1,4 @@
--- `cube::spelled` meets its contract. The loop's invariant: the header bytes passed are spelled, and every other bit is zero. Assumes nothing.
+-- `cube::header::spelled` meets its contract. The loop's invariant: the header bytes passed are spelled, and every other bit is zero.
 use Prim.Native.Nat.{_-_, _≤_}
 use native.Mathlib.Omega.{arith}
 use borrow.Author.Needs.{needs}

@@ -1,4 +1,4 @@
--- `cube::put` meets its contract. The loop's invariant: the first i bytes are copied. Assumes nothing.
+-- `cube::lay::put` meets its contract. The loop's invariant: the first i bytes are copied.
 use Prim.Native.Nat.{_-_, _≤_}
 use native.Mathlib.Numerals.{add-one}
 use native.Mathlib.Omega.{arith}

@@ -1,4 +1,4 @@
--- `cube::lies_in` meets its contract: what the second takes from the first is gathered, and is 0 at the end. Assumes nothing.
+-- `cube::pair::lies_in` meets its contract: what the second takes from the first is gathered, and is 0 at the end.
 use mathlib.Core.Path.{_≡_, refl, _∙_}
 use mathlib.Core.Bool.{_&&_}
 use Prim.Native.Nat.{_-_, _≤_}

@@ -1,4 +1,4 @@
--- `cube::meet_into` meets its contract. The loop's invariant: the meet of the bytes passed stands over the front of out. Assumes nothing.
+-- `cube::pair::meet_into` meets its contract. The loop's invariant: the meet of the bytes passed stands over the front of out.
 use mathlib.Core.Path.{_≡_, _∙_}
 use Prim.Native.Nat.{_-_, _≤_}
 use native.Mathlib.Omega.{arith}

@@ -1,4 +1,4 @@
--- `cube::meets` meets its contract: what is missing of each place is gathered, and is 0 at the end. Assumes nothing.
+-- `cube::pair::meets` meets its contract: what is missing of each place is gathered, and is 0 at the end.
 use mathlib.Core.Path.{_≡_, refl, sym}
 use mathlib.Core.Bool.{_&&_}
 use Prim.Native.Nat.{_-_, _≤_}

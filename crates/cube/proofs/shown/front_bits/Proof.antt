@@ -1,4 +1,4 @@
--- `cube::shown::front_bits` meets its contract. Assumes nothing.
+-- `cube::shown::front_bits` meets its contract.
 use lib.Bits.{and-le-l}
 use borrow.Author.Needs.{needs}
 use Rattle.cube.proofs.Showing.{mask-right}

@@ -1,4 +1,4 @@
--- `cube::show` meets its contract. The loop's invariant: the first j bytes of the header are written. Assumes nothing.
+-- `cube::shown::show` meets its contract. The loop's invariant: the first j bytes of the header are written.
 use Prim.Native.Nat.{ℕ, _-_, _/_, _≤_}
 use native.Mathlib.Omega.{arith}
 use mathlib.Core.List.{List}

@@ -1,4 +1,4 @@
--- `cube::shown::shown_byte` meets its contract. Assumes nothing.
+-- `cube::shown::shown_byte` meets its contract.
 use borrow.Author.Needs.{needs}
 use Rattle.cube.proofs.Showing.{byte-right}
 use Rattle.cube.proofs.shown.shown_byte.Statement.{statement}

@@ -1,4 +1,4 @@
--- `cube::shown::shown_half` meets its contract. Assumes nothing.
+-- `cube::shown::shown_half` meets its contract.
 use Rattle.cube.proofs.Showing.{half-right}
 use Rattle.cube.proofs.shown.shown_half.Statement.{statement}
 use Rattle.cube.proofs.shown.shown_half.Tie as tie

@@ -1,4 +1,4 @@
--- `cube::width_refusal` meets its contract: each return is a row of its table. Assumes nothing.
+-- `cube::size::width_refusal` meets its contract: each return is a row of its table.
 use native.Mathlib.Omega.{arith}
 use mathlib.Core.Path.{_∙_}
 use borrow.Author.Needs.{needs}

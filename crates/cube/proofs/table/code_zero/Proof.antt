@@ -1,4 +1,4 @@
--- `cube::code_zero` meets its contract: the table's rule is one test that antt computes at all 256 entries. Assumes nothing.
+-- `cube::table::code_zero` meets its contract: the table's rule is one test that antt computes at all 256 entries.
 use mathlib.Core.List.{List, [], _∷_}
 use mathlib.Core.Bool.{Bool, not}
 use Prim.Native.Nat.{ℕ}

@@ -1,4 +1,4 @@
--- `cube::free_places` meets its contract: the table's rule is one test that antt computes at all 256 entries. Assumes nothing.
+-- `cube::table::free_places` meets its contract: the table's rule is one test that antt computes at all 256 entries.
 use mathlib.Core.List.{List, [], _∷_}
 use mathlib.Core.Bool.{Bool}
 use Prim.Native.Nat.{ℕ}

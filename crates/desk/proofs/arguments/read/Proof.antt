@@ -1,4 +1,4 @@
--- `desk::arguments::read` meets its contract. At most six arguments are read, and the line keeps its length. Assumes nothing.
+-- `desk::arguments::read` meets its contract. At most six arguments are read, and the line keeps its length.
 use Prim.Native.Nat.{_-_, _≤_}
 use mathlib.Core.Path.{_≡_}
 use lib.ListN.{length}

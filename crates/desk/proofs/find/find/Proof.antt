@@ -1,4 +1,4 @@
--- `desk::find::find` meets its contract. The search goes on from `from`. Assumes nothing.
+-- `desk::find::find` meets its contract. The search goes on from `from`.
 use Prim.Native.Nat.{_≤_, _-_}
 use lib.ListN.{length}
 use borrow.Author.Needs.{needs}

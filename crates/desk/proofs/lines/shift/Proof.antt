@@ -1,4 +1,4 @@
--- `desk::lines::shift` meets its contract. The buffer keeps its length, and no more is moved than there is. Assumes nothing.
+-- `desk::lines::shift` meets its contract. The buffer keeps its length, and no more is moved than there is.
 use Prim.Native.Nat.{_-_, _≤_}
 use mathlib.Core.Path.{_≡_}
 use lib.ListN.{length}

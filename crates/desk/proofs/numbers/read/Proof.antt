@@ -1,4 +1,4 @@
--- `desk::numbers::read` meets its contract. The value stays within the limit. Assumes nothing.
+-- `desk::numbers::read` meets its contract. The value stays within the limit.
 use Prim.Native.Nat.{_-_, _≤_}
 use lib.ListN.{length}
 use borrow.Author.Needs.{needs}

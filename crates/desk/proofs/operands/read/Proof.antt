@@ -1,4 +1,4 @@
--- `desk::operands::read` meets its contract. The word keeps its length. Assumes nothing.
+-- `desk::operands::read` meets its contract. The word keeps its length.
 use Prim.Native.Nat.{_-_}
 use mathlib.Core.Path.{_≡_}
 use lib.ListN.{length}

@@ -1,4 +1,4 @@
--- `desk::room::fill` meets its contract. The room keeps its length. Assumes nothing.
+-- `desk::room::fill` meets its contract. The room keeps its length.
 use Prim.Native.Nat.{_-_}
 use mathlib.Core.Path.{_≡_}
 use lib.ListN.{length}

@@ -1,4 +1,4 @@
--- `desk::room::touched` meets its contract. Assumes nothing.
+-- `desk::room::touched` meets its contract.
 use Prim.Native.Nat.{_-_}
 use lib.ListN.{length}
 use borrow.Author.Needs.{needs}

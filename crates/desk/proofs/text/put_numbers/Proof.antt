@@ -1,4 +1,4 @@
--- `desk::text::put_numbers` meets its contract. The text keeps its length. Assumes nothing.
+-- `desk::text::put_numbers` meets its contract. The text keeps its length.
 use Prim.Native.Nat.{_-_}
 use mathlib.Core.Path.{_≡_}
 use lib.ListN.{length}

@@ -1,4 +1,4 @@
--- `desk::words::place` meets its contract. As many words are passed as bytes at most. Assumes nothing.
+-- `desk::words::place` meets its contract. As many words are passed as bytes at most.
 use Prim.Native.Nat.{_-_, _≤_}
 use lib.ListN.{length}
 use borrow.Author.Needs.{needs}

@@ -1,4 +1,4 @@
--- `desk::words::split` meets its contract. Each word begins within the line or at its end. Assumes nothing.
+-- `desk::words::split` meets its contract. Each word begins within the line or at its end.
 use Prim.Native.Nat.{_≤_, _-_}
 use lib.ListN.{length}
 use borrow.Author.Needs.{needs}

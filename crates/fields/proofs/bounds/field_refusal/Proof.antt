@@ -1,4 +1,4 @@
--- `fields::field_refusal` meets its contract: each return is a row of its table. Assumes nothing.
+-- `fields::bounds::field_refusal` meets its contract: each return is a row of its table.
 use Prim.Native.Nat.{_≤_}
 use native.Mathlib.Omega.{arith}
 use mathlib.Core.Path.{_∙_}

@@ -1,4 +1,4 @@
--- `fields::equal_fields` meets its contract: each return is a row of its table. Assumes nothing.
+-- `fields::equality::equal_fields` meets its contract: each return is a row of its table.
 use Prim.Native.Nat.{ℕ}
 use native.Mathlib.Omega.{arith}
 use mathlib.Core.Path.{_≡_, refl, sym, ap, _∙_}

@@ -1,4 +1,4 @@
--- `fields::pairs_of` meets its contract. Assumes nothing.
+-- `fields::equality::pairs_of` meets its contract.
 use borrow.Author.Tests.{eq-eqb, ne-eqb}
 use Rattle.fields.proofs.equality.pairs_of.Statement.{statement}
 use Rattle.fields.proofs.equality.pairs_of.Tie as tie

@@ -1,4 +1,4 @@
--- `fields::put_apart` meets its contract: the two codes are set in a free cube. Assumes nothing.
+-- `fields::equality::put_apart` meets its contract: the two codes are set in a free cube.
 use mathlib.Core.Path.{_∙_}
 use lib.ListN.{length}
 use borrow.Author.Needs.{needs}

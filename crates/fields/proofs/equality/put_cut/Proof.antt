@@ -1,4 +1,4 @@
--- `fields::put_cut` meets its contract: what is lent and comes back are the bytes of the cut. Assumes nothing.
+-- `fields::equality::put_cut` meets its contract: what is lent and comes back are the bytes of the cut.
 use Prim.Native.Nat.{_+_, _-_}
 use native.Mathlib.Omega.{arith}
 use mathlib.Core.Path.{_≡_, ap, _∙_}

@@ -1,4 +1,4 @@
--- `fields::put_cuts` meets its contract: the cuts of each position passed are written. Assumes nothing.
+-- `fields::equality::put_cuts` meets its contract: the cuts of each position passed are written.
 use Prim.Native.Nat.{_+_, _-_, _*_, _≤_}
 use native.Mathlib.Omega.{arith}
 use mathlib.Core.Path.{_≡_, refl, sym, ap, _∙_}

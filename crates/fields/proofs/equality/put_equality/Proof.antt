@@ -1,4 +1,4 @@
--- `fields::put_equality` meets its contract: the front, the base and the cuts stand one behind the other. Assumes nothing.
+-- `fields::equality::put_equality` meets its contract: the front, the base and the cuts stand one behind the other.
 use Prim.Native.Nat.{_+_, _-_, _*_, _≤_}
 use native.Mathlib.Omega.{arith}
 use mathlib.Core.Path.{_≡_, refl, sym, ap, _∙_}

@@ -1,4 +1,4 @@
--- `fields::prefix` meets its contract: each return is a row of its table. Assumes nothing.
+-- `fields::prefixes::prefix` meets its contract: each return is a row of its table.
 use Prim.Native.Nat.{_+_, _-_, _≤_}
 use native.Mathlib.Omega.{arith}
 use mathlib.Core.Path.{_≡_, refl, sym, ap, _∙_}

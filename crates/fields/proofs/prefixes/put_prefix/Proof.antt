@@ -1,4 +1,4 @@
--- `fields::put_prefix` meets its contract: each position passed is fixed to its bit. Assumes nothing.
+-- `fields::prefixes::put_prefix` meets its contract: each position passed is fixed to its bit.
 use Prim.Native.Nat.{_+_, _-_, _*_, _/_, _%_, _^_, _≤_, _<_}
 use native.Mathlib.Omega.{arith}
 use mathlib.Core.Path.{_≡_, refl, sym, ap, _∙_}

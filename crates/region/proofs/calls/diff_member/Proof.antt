@@ -1,4 +1,4 @@
--- `region::calls::diff_member` meets its contract. Assumes nothing.
+-- `region::calls::diff_member` meets its contract.
 use mathlib.Core.Bool.{true}
 use mathlib.Core.Path.{ap, _∙_}
 use borrow.Author.Needs.{needs}

@@ -1,4 +1,4 @@
--- `region::calls::region_member` meets its contract. Assumes nothing.
+-- `region::calls::region_member` meets its contract.
 use mathlib.Core.Path.{sym, ap, _∙_}
 use borrow.Author.Needs.{needs}
 use Rattle.format.proofs.Lending.{file-refused}

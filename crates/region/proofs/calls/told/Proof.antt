@@ -1,4 +1,4 @@
--- `region::calls::told` meets its contract. Assumes nothing.
+-- `region::calls::told` meets its contract.
 use mathlib.Core.Path.{ap, _∙_}
 use borrow.Author.Needs.{needs}
 use Rattle.format.specs.Told.{Told, yesOr}

@@ -1,4 +1,4 @@
--- `region::frame::frame_fault` meets its contract. Assumes nothing.
+-- `region::frame::frame_fault` meets its contract.
 use native.Mathlib.Omega.{arith}
 use borrow.Author.Needs.{needs}
 use Rattle.format.proofs.Reached.{reached}

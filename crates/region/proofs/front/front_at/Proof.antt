@@ -1,4 +1,4 @@
--- `region::front::front_at` meets its contract. Assumes nothing.
+-- `region::front::front_at` meets its contract.
 use native.Mathlib.Omega.{arith}
 use mathlib.Core.Path.{refl}
 use borrow.Author.Needs.{needs}

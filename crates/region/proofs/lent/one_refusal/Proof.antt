@@ -1,4 +1,4 @@
--- `region::lent::one_refusal` meets its contract. Assumes nothing.
+-- `region::lent::one_refusal` meets its contract.
 use mathlib.Core.Path.{_∙_}
 use borrow.Author.Needs.{needs}
 use Rattle.format.proofs.Lending.{width-refused, width-passed}

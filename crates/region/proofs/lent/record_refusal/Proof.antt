@@ -1,4 +1,4 @@
--- `region::lent::record_refusal` meets its contract. Assumes nothing.
+-- `region::lent::record_refusal` meets its contract.
 use Prim.Native.Nat.{ℕ}
 use native.Mathlib.Omega.{arith}
 use mathlib.Core.Path.{ap, _∙_}

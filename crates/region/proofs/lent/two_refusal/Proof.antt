@@ -1,4 +1,4 @@
--- `region::lent::two_refusal` meets its contract. Assumes nothing.
+-- `region::lent::two_refusal` meets its contract.
 use mathlib.Core.Path.{_∙_}
 use borrow.Author.Needs.{needs}
 use Rattle.format.proofs.Lending.{one-refused, one-passed}

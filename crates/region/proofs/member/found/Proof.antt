@@ -1,3 +1,4 @@
+-- `region::member::found` meets its contract.
 use borrow.Author.Needs.{needs}
 use Rattle.region.proofs.member.found.Statement.{statement}
 use Rattle.region.proofs.member.found.Tie as tie

@@ -1,3 +1,4 @@
+-- `region::member::in_cube` meets its contract.
 use borrow.Author.Needs.{needs}
 use native.Mathlib.Nat.{sub-zero, add-sub-cancel-left}
 use Rattle.region.specs.Asked.{cubeIn}

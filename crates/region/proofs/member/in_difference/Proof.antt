@@ -1,4 +1,4 @@
--- `region::member::in_difference` meets its contract. Assumes nothing.
+-- `region::member::in_difference` meets its contract.
 use borrow.Author.Needs.{needs}
 use Rattle.region.proofs.Held.{record-short, record-in, record-out}
 use Rattle.region.proofs.member.in_difference.Statement.{statement}

@@ -1,4 +1,4 @@
--- `region::offset::seek` meets its contract. Assumes nothing.
+-- `region::offset::seek` meets its contract.
 use mathlib.Core.Path.{_≡_, refl, sym, _∙_}
 use lib.ListN.{length, getD}
 use borrow.Author.Needs.{needs}

@@ -1,4 +1,4 @@
--- `region::record::front_fault` meets its contract. Assumes nothing.
+-- `region::record::front_fault` meets its contract.
 use Prim.Native.Nat.{_*_, _≤_, _+_}
 use native.Mathlib.Omega.{arith}
 use mathlib.Core.Path.{_≡_, _∙_}

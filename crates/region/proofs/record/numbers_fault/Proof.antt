@@ -1,4 +1,4 @@
--- `region::record::numbers_fault` meets its contract. Assumes nothing.
+-- `region::record::numbers_fault` meets its contract.
 use Prim.Native.Nat.{_+_, _*_, _≤_}
 use native.Mathlib.Omega.{arith}
 use native.Mathlib.Nat.{mul-le-mul}

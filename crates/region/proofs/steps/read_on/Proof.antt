@@ -1,4 +1,4 @@
--- `region::steps::read_on` meets its contract. Assumes nothing.
+-- `region::steps::read_on` meets its contract.
 use mathlib.Core.Bool.{false}
 use mathlib.Core.Path.{_≡_, sym, _∙_}
 use lib.ListN.{length}

@@ -1,4 +1,4 @@
--- `region::steps::start_of` meets its contract. Assumes nothing.
+-- `region::steps::start_of` meets its contract.
 use borrow.Author.Tests.{eq-eqb, ne-eqb}
 use borrow.Author.Needs.{needs}
 use Rattle.region.proofs.steps.start_of.Statement.{statement}

@@ -1,4 +1,4 @@
--- `region::views::stretch_of` meets its contract. Assumes nothing.
+-- `region::views::stretch_of` meets its contract.
 use Prim.Native.Nat.{_+_, _*_, _≤_}
 use native.Mathlib.Omega.{arith}
 use mathlib.Core.Path.{_≡_, ap, _∙_}

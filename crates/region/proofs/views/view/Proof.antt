@@ -1,3 +1,4 @@
+-- `region::views::view` meets its contract.
 use borrow.Author.Needs.{needs}
 use native.Mathlib.Nat.{add-sub-cancel-left}
 use native.Mathlib.Omega.{arith}

@@ -1,3 +1,4 @@
+-- `region::views::view_number` meets its contract.
 use borrow.Author.Needs.{needs}
 use mathlib.Core.Path.{ap}
 use Rattle.format.specs.Calls.{Viewed}

@@ -1,4 +1,4 @@
--- `region::width::first_at` meets its contract. Assumes nothing.
+-- `region::width::first_at` meets its contract.
 use Prim.Native.Nat.{ℕ, _+_}
 use mathlib.Core.Path.{ap}
 use borrow.Author.Needs.{needs}

@@ -1,4 +1,4 @@
--- `region::width::width_fault` meets its contract. Assumes nothing.
+-- `region::width::width_fault` meets its contract.
 use native.Mathlib.Omega.{arith}
 use borrow.Author.Needs.{needs}
 use Rattle.format.specs.Records.{frameRows, widthRows, widthFault}

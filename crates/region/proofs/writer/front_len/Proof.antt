@@ -1,4 +1,4 @@
--- `region::front_len` meets its contract. Assumes nothing.
+-- `region::writer::front_len` meets its contract.
 use mathlib.Core.Path.{refl}
 use Rattle.format.specs.Records.{frontLen}
 use Rattle.region.proofs.writer.front_len.Statement.{statement}

@@ -1,4 +1,4 @@
--- `region::put_front` meets its contract. Assumes nothing.
+-- `region::writer::put_front` meets its contract.
 use Prim.Native.Nat.{_+_, _*_, _≤_}
 use native.Mathlib.Omega.{arith}
 use mathlib.Core.Path.{_∙_}

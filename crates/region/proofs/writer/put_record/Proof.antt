@@ -1,4 +1,4 @@
--- `region::put_record` meets its contract. Assumes nothing.
+-- `region::writer::put_record` meets its contract.
 use native.Mathlib.Omega.{arith}
 use borrow.Author.Needs.{needs}
 use Rattle.format.specs.Records.{frontLen}

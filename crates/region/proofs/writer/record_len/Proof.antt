@@ -1,4 +1,4 @@
--- `region::record_len` meets its contract. Assumes nothing.
+-- `region::writer::record_len` meets its contract.
 use Prim.Native.Nat.{_+_, _*_, _≤_}
 use native.Mathlib.Omega.{arith}
 use borrow.Author.Needs.{needs}

@@ -1,4 +1,4 @@
--- `visits::alive::digit_of` meets its contract. Assumes nothing.
+-- `visits::alive::digit_of` meets its contract.
 use native.Mathlib.Nat.{one-mul}
 use mathlib.Core.Path.{_∙_}
 use lib.Pow.{shl-exact}

@@ -1,4 +1,4 @@
--- `visits::alive::top` meets its contract. Assumes nothing.
+-- `visits::alive::top` meets its contract.
 use Rattle.visits.proofs.Digits.{leading-small, Top, top-of}
 use lib.Count.{leading-le, leadingZeros}
 use Prim.Native.Nat.{_-_}

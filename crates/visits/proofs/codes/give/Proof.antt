@@ -1,4 +1,4 @@
--- `visits::codes::give` meets its contract. Assumes nothing.
+-- `visits::codes::give` meets its contract.
 use Rattle.visits.proofs.Step.{piece-given}
 use borrow.Author.Needs.{needs}
 use Rattle.visits.proofs.codes.give.Statement.{statement}

@@ -1,5 +1,5 @@
--- `visits::fast::visit` meets its contract, as its own cycle of calls. A turn of the loop is that of the plain visit; what is new is that the cuts met
--- are digits of a word, and that a child's walk may be remembered. Assumes nothing.
+-- `visits::fast::+visit` meets its contract, as its own cycle of calls. A turn of the loop is that of the plain visit; what is new is that the cuts met
+-- are digits of a word, and that a child's walk may be remembered.
 use Rattle.visits.specs.Settle.{Said, settle, leftFrom}
 use Rattle.visits.specs.declared.allowance.Allowance.{Allowance}
 use borrow.Author.Needs.{needs}

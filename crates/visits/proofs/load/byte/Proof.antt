@@ -1,4 +1,4 @@
--- `visits::load::byte` meets its contract. Assumes nothing.
+-- `visits::load::byte` meets its contract.
 use Rattle.visits.proofs.Carrying.{padded-inside, padded-behind}
 use lib.Seq.{getD-drop}
 use lib.ListN.{drop, length-drop}

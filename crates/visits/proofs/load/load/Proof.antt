@@ -1,4 +1,4 @@
--- `visits::load::load` meets its contract. Assumes nothing.
+-- `visits::load::load` meets its contract.
 use Rattle.visits.proofs.Digits.{below-or}
 use lib.ListN.{getD-replicate}
 use mathlib.Core.Logic.{⊎-elim}

@@ -1,4 +1,4 @@
--- `visits::load::load_cuts` meets its contract. Assumes nothing.
+-- `visits::load::load_cuts` meets its contract.
 use native.Mathlib.Nat.{sub-zero}
 use Rattle.visits.proofs.Carrying.{Down, down, row-more}
 use Rattle.visits.specs.Loading.{Loaded}

@@ -1,4 +1,4 @@
--- `visits::load::unload` meets its contract. Assumes nothing.
+-- `visits::load::unload` meets its contract.
 use Rattle.visits.proofs.Carrying.{byte-out, unloaded}
 use lib.Bits.{and-le-r}
 use lib.ListN.{length-set}

@@ -1,4 +1,4 @@
--- `visits::load::word` meets its contract. Assumes nothing.
+-- `visits::load::word` meets its contract.
 use lib.Pow.{pow-mono}
 use Rattle.visits.proofs.Carrying.{holds-none, holds-more}
 use Rattle.visits.specs.Loading.{padded, HoldsBytes}

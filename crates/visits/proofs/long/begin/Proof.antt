@@ -1,4 +1,4 @@
--- `visits::long::begin` meets its contract. Assumes nothing.
+-- `visits::long::begin` meets its contract.
 use Rattle.visits.proofs.Meeting.{alive-fewer, alive-meets, alive-top, alive-passed, alive-none, against-fewer}
 use Rattle.visits.specs.Words.{cubeOfWords}
 use Rattle.visits.specs.Settle.{settle}

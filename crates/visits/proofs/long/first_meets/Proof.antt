@@ -1,4 +1,4 @@
--- `visits::long::first_meets` meets its contract. Assumes nothing.
+-- `visits::long::first_meets` meets its contract.
 use Rattle.visits.proofs.Whole.{one-fits}
 use Rattle.format.specs.Bytes.{codes}
 use Rattle.model.specs.Cube.{shares}

@@ -1,4 +1,4 @@
--- `visits::long::long_walk` meets its contract. Assumes nothing.
+-- `visits::long::long_walk` meets its contract.
 use Rattle.visits.proofs.Whole.{loaded-alive, first-met, first-passed, whole, in-bytes-says, last-fit, zeros}
 use Rattle.visits.proofs.Slots.{memory-fresh}
 use Rattle.visits.proofs.Step.{front-length, front-cube, cube-length}

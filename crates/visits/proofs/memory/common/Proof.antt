@@ -1,4 +1,4 @@
--- `visits::memory::common` meets its contract. Assumes nothing.
+-- `visits::memory::common` meets its contract.
 use Rattle.visits.proofs.Meeting.{alive-top}
 use Rattle.visits.proofs.Slots.{common-turn, common-end}
 use Rattle.visits.specs.Memory.{Lies}

@@ -1,4 +1,4 @@
--- `visits::memory::keep` meets its contract. Assumes nothing.
+-- `visits::memory::keep` meets its contract.
 use Rattle.visits.proofs.Slots.{keeps-right}
 use borrow.Author.Needs.{needs}
 use Rattle.visits.proofs.memory.keep.Statement.{statement}

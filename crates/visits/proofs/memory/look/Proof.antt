@@ -1,4 +1,4 @@
--- `visits::memory::look` meets its contract. Assumes nothing.
+-- `visits::memory::look` meets its contract.
 use Rattle.visits.proofs.Slots.{look-turn, recalls-right}
 use lib.Bits.{bitOr}
 use lib.ListN.{getD, length}

@@ -1,4 +1,4 @@
--- `visits::memory::meet` meets its contract. Assumes nothing.
+-- `visits::memory::meet` meets its contract.
 use Rattle.visits.proofs.Slots.{met-turn}
 use lib.Bits.{bitAnd}
 use lib.ListN.{getD}

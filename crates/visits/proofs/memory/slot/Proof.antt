@@ -1,4 +1,4 @@
--- `visits::memory::slot` meets its contract. Assumes nothing.
+-- `visits::memory::slot` meets its contract.
 use Rattle.visits.proofs.Slots.{Filled, filled-turn, slot-right}
 use mathlib.Core.Path.{_≡_, refl, subst}
 use native.Mathlib.Omega.{arith}

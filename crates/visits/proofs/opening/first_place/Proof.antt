@@ -1,4 +1,4 @@
--- `visits::opening::first_place` meets its contract. Assumes nothing.
+-- `visits::opening::first_place` meets its contract.
 use native.Mathlib.Omega.{arith}
 use lib.Count.{leading-le}
 use Rattle.visits.proofs.opening.first_place.Statement.{statement}

@@ -1,4 +1,4 @@
--- `visits::opening::fixed_marks` meets its contract. Assumes nothing.
+-- `visits::opening::fixed_marks` meets its contract.
 use Rattle.visits.proofs.Marks.{fixed-right}
 use Rattle.visits.proofs.opening.fixed_marks.Statement.{statement}
 use Rattle.visits.proofs.opening.fixed_marks.Tie as tie

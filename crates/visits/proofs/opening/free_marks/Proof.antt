@@ -1,4 +1,4 @@
--- `visits::opening::free_marks` meets its contract. Assumes nothing.
+-- `visits::opening::free_marks` meets its contract.
 use Rattle.visits.proofs.Marks.{free-right}
 use Rattle.visits.proofs.opening.free_marks.Statement.{statement}
 use Rattle.visits.proofs.opening.free_marks.Tie as tie

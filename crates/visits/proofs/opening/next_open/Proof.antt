@@ -1,4 +1,4 @@
--- `visits::opening::next_open` meets its contract. Assumes nothing.
+-- `visits::opening::next_open` meets its contract.
 use Prim.Native.Nat.{_*_, _-_, _≤_}
 use native.Mathlib.Omega.{arith}
 use mathlib.Core.Path.{_≡_, sym, _∙_}

@@ -1,4 +1,4 @@
--- `visits::opening::open_marks` meets its contract. Assumes nothing.
+-- `visits::opening::open_marks` meets its contract.
 use Rattle.visits.proofs.Marks.{and-marks}
 use borrow.Author.Needs.{needs}
 use Rattle.visits.proofs.opening.open_marks.Statement.{statement}

@@ -1,4 +1,4 @@
--- `visits::reply::last` meets its contract. Assumes nothing.
+-- `visits::reply::last` meets its contract.
 use Rattle.visits.proofs.Settle.{settle-le, settle-none}
 use Rattle.visits.specs.Words.{cubeOfWords}
 use Rattle.visits.specs.Replies.{survives}

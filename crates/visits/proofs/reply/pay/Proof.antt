@@ -1,4 +1,4 @@
--- `visits::reply::pay` meets its contract. Assumes nothing.
+-- `visits::reply::pay` meets its contract.
 use Rattle.visits.proofs.Paying.{pays-short, pays-whole}
 use borrow.Author.Needs.{needs}
 use Rattle.visits.proofs.reply.pay.Statement.{statement}

@@ -1,4 +1,4 @@
--- `visits::table::alive_of` meets its contract. Assumes nothing.
+-- `visits::table::alive_of` meets its contract.
 use Rattle.visits.proofs.Entering.{part-row, met-more}
 use Rattle.model.specs.Cube.{shares}
 use mathlib.Core.Bool.{true, false}

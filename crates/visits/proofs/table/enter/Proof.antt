@@ -1,4 +1,4 @@
--- `visits::table::enter` meets its contract. Assumes nothing.
+-- `visits::table::enter` meets its contract.
 use Rattle.visits.proofs.Entering.{fresh, free-words, enter-fits, enter-turn, enter-end, agree-turn}
 use Rattle.visits.proofs.Narrowing.{Opened, opened, took-cube, later-first}
 use Rattle.visits.proofs.WordCubes.{words-length}

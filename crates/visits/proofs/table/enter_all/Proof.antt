@@ -1,4 +1,4 @@
--- `visits::table::enter_all` meets its contract. Assumes nothing.
+-- `visits::table::enter_all` meets its contract.
 use Rattle.visits.proofs.Entering.{EnteredAll, entered-none, entered-more}
 use Rattle.visits.proofs.Meeting.{pow-double}
 use Rattle.visits.specs.Alive.{Against}

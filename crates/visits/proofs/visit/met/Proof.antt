@@ -1,4 +1,4 @@
--- `visits::visit::met` meets its contract. Assumes nothing.
+-- `visits::visit::met` meets its contract.
 use mathlib.Core.Path.{ap, _∙_}
 use lib.ListN.{length}
 use Rattle.model.specs.Cube.{shares}

@@ -1,4 +1,4 @@
--- `visits::visit::opened` meets its contract. Assumes nothing.
+-- `visits::visit::opened` meets its contract.
 use mathlib.Core.Path.{ap, _∙_}
 use lib.ListN.{length}
 use Rattle.format.specs.Bytes.{codes}

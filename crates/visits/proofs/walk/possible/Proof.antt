@@ -1,4 +1,4 @@
--- `visits::walk::possible` meets its contract: each return is a row of its table. Assumes nothing.
+-- `visits::walk::possible` meets its contract: each return is a row of its table.
 use native.Mathlib.Nat.{mul-le-mul}
 use native.Mathlib.Omega.{arith}
 use Rattle.format.proofs.Reached.{reached}

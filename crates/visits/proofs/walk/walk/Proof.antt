@@ -1,4 +1,4 @@
--- `visits::walk::walk` meets its contract: what `possible` says is the one test. Assumes nothing.
+-- `visits::walk::walk` meets its contract: what `possible` says is the one test.
 use mathlib.Core.Path.{_≡_, sym, _∙_}
 use mathlib.Core.Bool.{true}
 use borrow.Author.Tests.{not-true, not-false}

@@ -1,4 +1,4 @@
--- `visits::walk::walk_within` meets its contract. Assumes nothing.
+-- `visits::walk::walk_within` meets its contract.
 use Rattle.visits.proofs.Whole.{not-undecided, resumed-fits, resumed-says}
 use mathlib.Core.Path.{refl}
 use native.Mathlib.Omega.{arith}

@@ -1,4 +1,4 @@
--- `visits::words::first_place` meets its contract. Assumes nothing.
+-- `visits::words::first_place` meets its contract.
 use lib.Count.{leading-le}
 use native.Mathlib.Omega.{arith}
 use Rattle.visits.proofs.words.first_place.Statement.{statement}

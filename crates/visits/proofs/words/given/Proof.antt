@@ -1,4 +1,4 @@
--- `visits::words::given` meets its contract. Assumes nothing.
+-- `visits::words::given` meets its contract.
 use Rattle.visits.proofs.Digits.{taken-fits, taken-there, given-right}
 use borrow.Author.Needs.{needs}
 use Rattle.visits.proofs.words.given.Statement.{statement}

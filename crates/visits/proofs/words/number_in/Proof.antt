@@ -1,4 +1,4 @@
--- `visits::words::number_in` meets its contract. Assumes nothing.
+-- `visits::words::number_in` meets its contract.
 use Rattle.visits.specs.Words.{numberIn}
 use native.Mathlib.Nat.{mod-lt}
 use lib.Dec.{lit<}

@@ -1,4 +1,4 @@
--- `visits::words::open_marks` meets its contract. Assumes nothing.
+-- `visits::words::open_marks` meets its contract.
 use Rattle.visits.proofs.Digits.{openings-right}
 use Rattle.visits.proofs.words.open_marks.Statement.{statement}
 use Rattle.visits.proofs.words.open_marks.Tie as tie

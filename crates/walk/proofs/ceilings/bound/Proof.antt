@@ -1,5 +1,5 @@
 -- `walk::ceilings::bound` meets its contract. The loop's invariant: n is the capped ceiling of the cuts from `end` on.
--- Assumes nothing.
+--
 use Prim.Native.Nat.{_+_, _-_, _*_, _≤_, _<_}
 use native.Mathlib.Omega.{arith}
 use mathlib.Core.Path.{_≡_, refl}

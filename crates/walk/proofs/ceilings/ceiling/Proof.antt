@@ -1,4 +1,4 @@
--- `walk::ceilings::ceiling` meets its contract. Assumes nothing.
+-- `walk::ceilings::ceiling` meets its contract.
 use Prim.Native.Nat.{_+_, _≤_}
 use native.Mathlib.Omega.{arith}
 use mathlib.Core.Bool.{true}

@@ -1,4 +1,4 @@
--- `walk::ceilings::climbed` meets its contract: what `meets` says is the one test. Assumes nothing.
+-- `walk::ceilings::climbed` meets its contract: what `meets` says is the one test.
 use Prim.Native.Nat.{ℕ, _+_, _*_}
 use mathlib.Core.Path.{refl, sym, ap, _∙_}
 use mathlib.Core.Bool.{true≢false}

@@ -1,4 +1,4 @@
--- `walk::ceilings::places` meets its contract. Assumes nothing.
+-- `walk::ceilings::places` meets its contract.
 use native.Mathlib.Omega.{arith}
 use mathlib.Core.List.{[], _∷_}
 use borrow.Author.Needs.{needs}

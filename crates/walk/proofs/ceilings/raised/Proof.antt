@@ -1,4 +1,4 @@
--- `walk::ceilings::raised` meets its contract. Assumes nothing.
+-- `walk::ceilings::raised` meets its contract.
 use Prim.Native.Nat.{_+_, _*_, _≤_}
 use native.Mathlib.Nat.{mul-le-mul}
 use native.Mathlib.Omega.{arith}

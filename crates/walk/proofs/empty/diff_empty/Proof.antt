@@ -1,4 +1,4 @@
--- `walk::empty::diff_empty` meets its contract. Assumes nothing.
+-- `walk::empty::diff_empty` meets its contract.
 use native.Mathlib.Omega.{arith}
 use mathlib.Core.Bool.{true}
 use mathlib.Core.Path.{refl}

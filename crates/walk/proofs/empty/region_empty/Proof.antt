@@ -1,4 +1,4 @@
--- `walk::empty::region_empty` meets its contract. Assumes nothing.
+-- `walk::empty::region_empty` meets its contract.
 use Prim.Native.Nat.{ℕ}
 use native.Mathlib.Omega.{arith}
 use mathlib.Core.Path.{_≡_, sym, ap, _∙_}

@@ -1,4 +1,4 @@
--- `walk::empty::walk_file` meets its contract. Assumes nothing.
+-- `walk::empty::walk_file` meets its contract.
 use Prim.Native.Nat.{_+_, _-_, _^_, _≤_, _<_}
 use native.Mathlib.Omega.{arith}
 use mathlib.Core.Path.{_≡_, sym, _∙_}

@@ -1,4 +1,4 @@
--- `walk::inclusion::diff_in` meets its contract. Assumes nothing.
+-- `walk::inclusion::diff_in` meets its contract.
 use native.Mathlib.Omega.{arith}
 use mathlib.Core.Bool.{true}
 use mathlib.Core.Path.{refl}

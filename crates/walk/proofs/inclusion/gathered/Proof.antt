@@ -1,4 +1,4 @@
--- `walk::inclusion::gathered` meets its contract. Assumes nothing.
+-- `walk::inclusion::gathered` meets its contract.
 use Prim.Native.Nat.{_+_, _*_, _≤_}
 use native.Mathlib.Omega.{arith}
 use native.Mathlib.Nat.{mul-le-mul}

@@ -1,4 +1,4 @@
--- `walk::inclusion::meet_at` meets its contract. Assumes nothing.
+-- `walk::inclusion::meet_at` meets its contract.
 use Prim.Native.Nat.{_+_, _-_}
 use native.Mathlib.Omega.{arith}
 use mathlib.Core.Path.{sym, ap, ap₂, _∙_}

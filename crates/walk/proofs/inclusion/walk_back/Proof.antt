@@ -1,4 +1,4 @@
--- `walk::inclusion::walk_back` meets its contract. Assumes nothing.
+-- `walk::inclusion::walk_back` meets its contract.
 use native.Mathlib.Omega.{arith}
 use mathlib.Core.Path.{_≡_, sym, ap, _∙_}
 use borrow.Author.Tests.{not-true, not-false}

@@ -1,4 +1,4 @@
--- `walk::inclusion::walk_less` meets its contract. Assumes nothing.
+-- `walk::inclusion::walk_less` meets its contract.
 use native.Mathlib.Omega.{arith}
 use mathlib.Core.Path.{sym, _∙_}
 use borrow.Author.Needs.{needs}

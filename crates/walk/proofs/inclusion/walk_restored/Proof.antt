@@ -1,4 +1,4 @@
--- `walk::inclusion::walk_restored` meets its contract. Assumes nothing.
+-- `walk::inclusion::walk_restored` meets its contract.
 use Prim.Native.Nat.{_+_, _-_, _*_, _^_, _≤_, _<_}
 use native.Mathlib.Omega.{arith}
 use mathlib.Core.Path.{_≡_, refl, sym, ap, _∙_}

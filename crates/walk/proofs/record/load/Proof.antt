@@ -1,4 +1,4 @@
--- `walk::record::load` meets its contract. Assumes nothing.
+-- `walk::record::load` meets its contract.
 use Prim.Native.Nat.{_+_, _-_}
 use native.Mathlib.Omega.{arith}
 use mathlib.Core.Path.{_≡_, sym, ap, _∙_}

@@ -1,4 +1,4 @@
--- `walk::record::walk_record` meets its contract. Assumes nothing.
+-- `walk::record::walk_record` meets its contract.
 use native.Mathlib.Omega.{arith}
 use mathlib.Core.Path.{_∙_}
 use borrow.Author.Needs.{needs}

@@ -1,4 +1,4 @@
--- `walk::told::tell` meets its contract, for each verdict. Assumes nothing.
+-- `walk::told::tell` meets its contract, for each verdict.
 use Prim.Native.Nat.{ℕ}
 use mathlib.Core.Path.{sym, ap, _∙_}
 use borrow.Author.Needs.{needs}

@@ -1,4 +1,4 @@
--- `region::asking::Asked::refused` meets its contract. Assumes nothing.
+-- `region::asking::Asked::refused` meets its contract.
 use mathlib.Core.Path.{refl}
 use borrow.Author.Needs.{needs}
 use Rattle.region.proofs.asking.Asked.refused.Statement.{statement}
