@@ -1,6 +1,5 @@
 -- The congruence of the walk.
 --   walk-alike    alike pieces have walks of the same count, and nothing survives in both or in neither
---
 use Prim.Native.Nat.{ℕ}
 use native.Mathlib.Omega.{arith}
 use mathlib.Core.Path.{_≡_, refl, sym, _∙_}

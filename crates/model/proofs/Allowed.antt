@@ -2,7 +2,6 @@
 --   decided-when, undecided-when   a walk that the allowance pays for is decided, and no other
 --   decide-by               what holds in the three cases holds of every decision: undecided, empty, a member
 --   count-at-most-ceiling   no decision on an allowance up to mostPieces counts more pieces than the capped ceiling
---
 use Prim.Native.Nat.{ℕ, _≤_, _<_}
 use native.Mathlib.Omega.{arith}
 use mathlib.Core.Path.{_≡_, refl}

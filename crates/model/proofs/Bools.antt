@@ -26,7 +26,6 @@ pub or-none : (a b : Bool) → a || b ≡ false → (a ≡ false) × (b ≡ fals
 or-none true b e = (e, cc)
 or-none false b e = (refl, e)
 
--- nothing is in the first and not in the second exactly where what is in the first is in the second
 pub less-none : (m n : Bool) → m && not n ≡ false → m ≡ true → n ≡ true
 less-none m true e i = refl
 less-none true false e i = sym e

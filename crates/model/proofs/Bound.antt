@@ -3,7 +3,6 @@
 --   capped-at-most           a capped number is at most mostPieces and at most the number
 --   capped-above             what is at most both is at most the capped number
 --   capped-same              a number that is at most mostPieces stays
---
 use Prim.Native.Nat.{ℕ, _+_, _*_, _≤_}
 use native.Mathlib.Nat.{suc-mul, one-mul, mul-le-mul-right, le-refl}
 use native.Mathlib.Omega.{arith}

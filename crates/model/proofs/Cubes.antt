@@ -1,10 +1,11 @@
 -- The set meaning of meeting, sharing a header and lying within.
 --   in-meet        a header is in the meet exactly when it is in both
 --   in-shown       a cube without `none` holds the header shown
+--   in-solid       a cube that holds a header has no `none`
 --   shares-shown, apart-none   cubes share a header exactly when their meet has no `none`, and then the shown header is one
 --   within-in, within-out      a cube without `none` lies in another exactly when every header of it does
 --   same-is, same-self         `same` is equality
---   meet-again, meet-self      meeting twice is meeting once
+--   meet-again                 meeting twice is meeting once
 --   length-meet, length-shown  the lengths of a meet and of the header shown
 use Prim.Native.Nat.{suc}
 use native.Mathlib.Omega.{arith}

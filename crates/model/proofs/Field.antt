@@ -6,7 +6,6 @@
 --   equal-count      n positions make 2 * n cuts
 --   good-equal       the base and the cuts of an equality have w positions and no `none`; it needs no bounds
 --   equal-tidy       equality's cuts are tidy anyway, also with overlap: tidying changes nothing
---
 use Prim.Native.Nat.{ℕ, zero, suc, _+_, _-_, _*_, _≤_, _<_}
 use native.Mathlib.Numerals.{add-one}
 use native.Mathlib.Omega.{arith}

@@ -1,7 +1,6 @@
 -- What the walk of "a in b" tells.
 --   inclusion-nothing    no survivor means that each header of a is in b
 --   inclusion-survivor   the header shown of a survivor is in a and not in b
---
 use mathlib.Core.Path.{_≡_, refl, sym, _∙_}
 use mathlib.Core.List.{List, [], _∷_}
 use mathlib.Core.Bool.{Bool, true, false, not, cond}

@@ -1,7 +1,6 @@
 -- Differences of w positions with u unused places behind each cube: as free positions these change nothing of what is made and walked of them.
---   each-padded         what is made of each
---   tidy-padded, intersection-padded, intersections-padded, restored-padded, subtraction-padded, subtractions-padded    the operations
---   walk-padded, region-padded, inclusion-padded    the walks
+--   tidy-padded, intersections-padded, subtractions-padded    the operations on regions
+--   walk-padded, inclusion-padded    the walk of a difference, and that of inclusion
 use Prim.Native.Nat.{ℕ}
 use mathlib.Core.Path.{_≡_, refl, sym, ap, ap₂, _∙_}
 use mathlib.Core.List.{List, [], _∷_, _++_, map, map-append}

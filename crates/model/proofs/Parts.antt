@@ -51,7 +51,6 @@ part-in (keep {x = x} {q = q} {p = p} s) (b ∷ h) e =
 part-in (fix c s) [] e = e
 part-in (fix {x = x} {q = q} c s) (b ∷ h) e = part-in s h (and-right (admits x b) (holds q h) e)
 
--- a piece meets the cuts that its parts meet
 pub wider-shares : {q p : Cube} → Part q p → (c : Cube) → shares q c ≡ true → shares p c ≡ true
 wider-shares {q} {p} s c e =
     let h = shown (meet q c) in

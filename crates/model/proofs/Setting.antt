@@ -1,12 +1,11 @@
 -- The set meaning of intersection and subtraction, and what their cubes are.
 --   in-intersection       a header is in the intersection of two differences exactly when it is in both
---   in-intersections      the same of two regions
+--   in-intersections      a header is in the intersections of two regions exactly when it is in both
 --   restored-back         what is given back for cuts is the difference's headers that are in one of them
 --   in-subtraction        a header is in a less b exactly when it is in a and not in b: so what the cuts of b take from b comes back
---   in-subtractions       the same of a region less a difference
+--   in-subtractions       a header is in a region less a difference exactly when it is in the one and not in the other
 --   good-intersection, good-intersections, good-subtraction, good-subtractions
 --                         cubes of w positions and without `none` make cubes of w positions and without `none`
---
 use Prim.Native.Nat.{ℕ}
 use mathlib.Core.Path.{_≡_, refl, sym, _∙_}
 use mathlib.Core.List.{List, [], _∷_}

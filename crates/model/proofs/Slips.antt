@@ -1,4 +1,6 @@
--- The slips seen in training, each as the answer that it gets wrong. Slips 3 and 4 are about bytes, and P1 and P3 hold them off.
+-- The slips seen in training, each as the answer that it gets wrong. Slips 3 and 4 are about bytes: the figures P1 and
+-- P3 hold them off.
+--   slips    the right answers where slips 1, 2 and 5 go wrong
 use mathlib.Core.Path.{_≡_, refl}
 use mathlib.Core.List.{[], _∷_}
 use mathlib.Core.Bool.{true, false}

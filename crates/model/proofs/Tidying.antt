@@ -3,11 +3,11 @@
 --   in-each               where f d has the headers of d that a test keeps, each f r has those of r
 --   any-append            a header is in one of the cubes cs ++ ds exactly when it is in one of cs or of ds
 --   in-tidy, in-tidyRegion    tidying changes no header
+--   each-append           what is made of each of r ++ s is what is made of each of r, then of s
 --   tidy-tidy             tidying twice is tidying once
 --   all-append, all-each  what holds of each of two lists holds of each of them in a row; what f keeps, each f keeps
 --   sized-meet            cubes that are Sized w and share a header have a meet that is Sized w
 --   tidy-keeps, tidyRegion-keeps    what is made of Good differences by tidying is Good
---
 use Prim.Native.Nat.{ℕ}
 use native.Mathlib.Omega.{arith}
 use mathlib.Core.Path.{_≡_, refl, sym, ap, _∙_}

@@ -8,7 +8,6 @@
 --   next-by          what holds in these two cases holds of the two walks
 --   next-at-most     two walks have no more pieces than both together
 --   turn-survivor    the survivor of walks one after another is that of one of them
---
 use Prim.Native.Nat.{ℕ, _+_, _≤_}
 use native.Mathlib.Nat.{le-refl, le-add-right}
 use native.Mathlib.Omega.{arith}

@@ -2,13 +2,13 @@
 --   in-children      the pieces to visit hold together the headers of the piece that are not in the cut
 --   survivor-solid, survivor-length   a survivor has no `none` where the piece has none, and is as long
 --   survivor-in      each header of a survivor is in the piece and in no cut
---   survivor-shown   so is the header shown
+--   survivor-shown   the header shown of a survivor is in the piece and in no cut
 --   nothing-in       no survivor means that no header is in the difference
 --   SolidBases r     the base of each difference of r has no `none`
---   region-survivor-in, region-survivor-shown, region-nothing-in   the same for a region
+--   region-survivor-in, region-survivor-shown, region-nothing-in
+--                    survivor-in, survivor-shown and nothing-in of the walk of a region
 --   walk-positive    a visit counts at least one piece
 --   walk-sized, region-sized   cubes of w positions have survivors of w positions
---
 use Prim.Native.Nat.{ℕ, _≤_}
 use native.Mathlib.Omega.{arith}
 use mathlib.Core.Path.{_≡_, refl, sym, ap, subst, _∙_}

@@ -1,6 +1,6 @@
 -- Cubes with unused places behind their positions, taken as free positions.
 --   pad u c                     == the cube c with u free places behind it
---   padSurvivor u s, padFound u v, padDifference u d == what survived, a walk and a difference with their cubes so
+--   padSurvivor u s, padFound u v, padDifference u d == what survived, a walk, a difference, with their cubes padded
 use Prim.Native.Nat.{ℕ}
 use mathlib.Core.List.{_++_, map}
 use lib.ListN.{replicate}
