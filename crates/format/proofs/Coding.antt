@@ -3,11 +3,13 @@
 --   fault-solid, fault-free  what an accepted cube is: no code 0 at a position, every unused place 3
 --   lent-length, lent-cube   what an accepted lent cube is: of its length, and an accepted cube
 --   lent-fault               bytes of a cube's length are lent with the cube's fault
---   read-length, read-padded the cube read has its w positions, and the bytes hold it with the unused places behind it
---   four-codes               codes of the same numbers, before the same codes
+--   read-length, read-padded    the cube read has its w positions, and the bytes hold it with unused places behind it
+--   four-codes               equal numbers give equal codes, four of them before the same codes
 --   codes-free               bytes 255 hold free positions alone
---   write-padded, read-write the bytes written hold the cube, and it is read again
+--   write-padded, read-write    the bytes written hold the cube, and it is read again
+--   write-length, write-bytes   n numbers are written, and they are bytes
 --   write-accepted           the bytes written of a cube without `none` are accepted
+--   codes-tell               bytes with the same codes are the same bytes
 --   write-read               an accepted cube is written again with the same bytes
 use Prim.Native.Nat.{ℕ, zero, suc, _+_, _-_, _*_, _/_, _%_, _^_, _≤_, _<_}
 use native.Mathlib.Nat.{div-one}
@@ -124,7 +126,6 @@ four x y z v bs =
     let d = digits (numberOf x) (numberOf y) (numberOf z) (numberOf v) (number-lt x) (number-lt y) (number-lt z) (number-lt v) in
     rw (d .0, d .1, d .2, d .3, code-number x, code-number y, code-number z, code-number v)
 
--- four codes that stand before the same ones
 pub four-codes : {a b c d a′ b′ c′ d′ : ℕ} (r : Cube) → (a ≡ a′) × (b ≡ b′) × (c ≡ c′) × (d ≡ d′)
     → _≡_ {A = Cube} (codeOf a ∷ codeOf b ∷ codeOf c ∷ codeOf d ∷ r) (codeOf a′ ∷ codeOf b′ ∷ codeOf c′ ∷ codeOf d′ ∷ r)
 four-codes r h = λ i. codeOf (h .0 i) ∷ codeOf (h .1 i) ∷ codeOf (h .2 i) ∷ codeOf (h .3 i) ∷ r
@@ -160,7 +161,6 @@ write-bytes zero c = tt
 write-bytes (suc n) c =
     (omega (arith, number-lt (getD c 0 free), number-lt (getD c 1 free), number-lt (getD c 2 free), number-lt (getD c 3 free)), write-bytes n (drop 4 c))
 
--- the cube written is read again
 pub read-write : (c : Cube) → readCube (length c) (writeCube c) ≡ c
 unfolding readCube
 read-write c =
@@ -179,7 +179,7 @@ pub write-accepted : (c : Cube) → solid c ≡ true → cubeFault (length c) (w
 unfolding cubeFault
 write-accepted c e = sym (reached 2 (cubeRows (length c) (writeCube c)) (rw (read-write c, e), (rw (write-free c), tt)))
 
--- bytes are told by their codes
+-- a byte and its four codes
 digit : (x y : ℕ) → x < 4 → y < 4 → codeOf x ≡ codeOf y → x ≡ y
 digit x y hx hy e = sym (number-code x hx) ∙ ap numberOf e ∙ number-code y hy
 
@@ -205,7 +205,6 @@ codes-tell (x ∷ a) (y ∷ b) ha hb e =
     let t = codes-tell a b (ha .1) (hb .1) (cc) in
     λ i. h i ∷ t i
 
--- an accepted cube is written again with the same bytes
 pub write-read : (w : ℕ) (bs : List ℕ) → length bs ≡ cubeLen w → Bytes bs → cubeFault w bs ≡ 0 → writeCube (readCube w bs) ≡ bs
 write-read w bs l h e =
     let n = read-length w bs l in

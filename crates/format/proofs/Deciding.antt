@@ -5,8 +5,10 @@
 --   empty-undecided, empty-undecided-when    it is undecided exactly when the walk has more pieces than the allowance, which is then the count
 --   empty-count              the count is that of the walk's decision
 --   ceiling-answers, empty-at-most-ceiling, ceiling-suffices    the ceiling is answered, no count is above it, and an allowance of it is enough
---   region-yes, region-yes-when, region-no, region-undecided, region-undecided-when, region-count    the same of a region
---   in-yes, in-yes-when, in-no, in-undecided, in-undecided-when, in-count    the same of inclusion: a header is looked for in the first and outside the second
+--   region-yes, region-yes-when, region-no, region-undecided, region-undecided-when, region-count
+--                            emptiness of a region, as that of a difference
+--   in-yes, in-yes-when, in-no, in-undecided, in-undecided-when, in-count
+--                            inclusion, likewise: a header is looked for in the first and outside the second
 use Prim.Native.Nat.{ℕ, _≤_, _<_}
 use native.Mathlib.Omega.{arith}
 use mathlib.Core.Path.{_≡_, sym, ap, _∙_}
@@ -92,7 +94,7 @@ module _ (w : ℕ) (s : List ℕ) (n room : ℕ) where
   pub empty-count : Lent w s × (headerLen w ≤ room) → diff-empty w s n room .answer .count ≡ countOf (decide n (walk (differenceAt w s 0)))
   empty-count = asks-count empty-asks
 
--- its ceiling
+-- the ceiling of a difference
 module _ (w : ℕ) (s : List ℕ) where
   pub ceiling-answers : Lent w s → ceiling-of w s ≡ silent (counted 0 (capped (ceiling (differenceAt w s 0))))
   unfolding ceiling-of

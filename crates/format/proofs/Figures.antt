@@ -1,4 +1,5 @@
--- Document 01's figures P1 to P10, as one list about the definitions.
+-- Document 01's figures P1 to P10.
+--   figures    each of them, as one list about the definitions
 use mathlib.Core.Path.{_≡_, refl}
 use mathlib.Core.List.{[], _∷_}
 use Rattle.model.specs.Cube.{v0, v1, free}

@@ -3,9 +3,9 @@
 --   before-number                          a record read before the rest leaves the rest's refusal as it is
 --   read-refused, read-begun               a file whose kind 1 record is refused, and one whose kind 1 record is accepted
 --   Width, width-of          the facts about an accepted kind 1 record, and that one has them
---   first-six                behind one the first difference stands at 6
+--   first-six                behind an accepted kind 1 record the first difference stands at 6
 --   Listed w s at n os       == os are the offsets of the accepted records from an offset to the end, with n before it
---   listed-turn              such offsets before the end
+--   listed-turn              before the file's end the first is of an accepted record, and the others follow it
 --   File, file-of            the facts about an accepted file, and that a file with no fault has them
 --   file-good, file-cuts, file-count    the region read of an accepted file is Good, no difference has too many cuts, nor are they too many
 --   write-file-read          an accepted file is written again with the same bytes
@@ -80,7 +80,6 @@ pub width-of : (s : List ℕ) → widthFault s ≡ 0 → Width s
 unfolding widthFault firstAt
 width-of s e = let c = clean (widthRows s) (omega arith) e in omega arith
 
--- where the first difference stands behind an accepted kind 1
 pub first-six : (s : List ℕ) → widthFault s ≡ 0 → firstAt s ≡ 6
 unfolding firstAt
 first-six s e = omega (arith, width-of s e)
@@ -90,7 +89,7 @@ pub data Listed (w : ℕ) (s : List ℕ) : ℕ → ℕ → List ℕ → Type 0 w
   ended : {at n : ℕ} → length s ≤ at → Listed w s at n []
   listed : {at n : ℕ} {os : List ℕ} → Record false w n s at → Listed w s (nextAt s at) (n + 1) os → Listed w s at n (at ∷ os)
 
--- a reading that refuses nothing gives them
+-- a reading that refuses nothing gives such offsets
 abbrev Lists : ℕ → List ℕ → ℕ → ℕ → Reading → Type 0
 Lists w s at n r = faultNumber r ≡ 0 → (os : List ℕ) × (r ≡ whole os) × Listed w s at n os
 
@@ -135,7 +134,7 @@ file-of-lists s false p e =
 pub file-of : (s : List ℕ) → faultNumber (readFile s) ≡ 0 → File s
 file-of s e = file-of-lists s (eqb (widthFault s) 0) refl e
 
--- what such offsets say
+-- what the offsets of an accepted file say
 module _ {w : ℕ} {s : List ℕ} where
   pub listed-turn : {at n : ℕ} {os : List ℕ} → Listed w s at n os → at < length s
       → (later : List ℕ) × (os ≡ at ∷ later) × Record false w n s at × Listed w s (nextAt s at) (n + 1) later

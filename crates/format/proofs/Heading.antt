@@ -118,7 +118,6 @@ unfolding headerBytes
 header-bytes zero h = tt
 header-bytes (suc n) h = (octet-lt h, header-bytes n (drop 8 h))
 
--- the header written is read again
 pub read-written : (h : Header) → readHeader (length h) (writeHeader h) ≡ h
 unfolding readHeader
 read-written h =

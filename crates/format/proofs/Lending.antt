@@ -3,11 +3,13 @@
 --   tests-refused, tests-passed, tests-past    of any tests p: a refusal is what the table gives; where there is none it goes on, and each test fails
 --   width-refused, pair-refused, one-refused, two-refused, record-refused, bits-refused    a refusal is what the call's table gives
 --   width-passed, pair-passed, one-passed, two-passed, record-passed, bits-passed    where there is none, the table goes on
---   width-lent, pair-lent, one-lent, two-lent, record-lent, bits-lent    and what was lent is accepted
---   file-refused, file-passed    the same of a file
+--   width-lent, pair-lent, one-lent, two-lent, record-lent, bits-lent    where there is none, what was lent is accepted
+--   file-refused, file-passed    a file's refusal is what the table gives; where there is none, the table goes on
 --   silent-out, told-out    the result and the buffer of a call that is lent one: where nothing is written, and where x is told
---   frame-refused, frame-clean    the same of a record's length and kind
---   numbers-refused, numbers-passed, numbers-clean    and of all that is said before a record's cubes
+--   frame-refused, frame-clean    what is wrong with a record's length or kind is what the table gives; where nothing
+--                      is, each test fails
+--   numbers-refused, numbers-passed, numbers-clean    likewise of all that stands before a record's cubes; where
+--                      nothing is wrong with it, the table goes on
 use Prim.Native.Nat.{ℕ, _≤_}
 use native.Mathlib.Omega.{arith}
 use mathlib.Core.Path.{_≡_, sym, ap, _∙_}
@@ -25,7 +27,6 @@ use Rattle.format.specs.Told.{Told, over, silent, widthTests, recordTest
 use Rattle.format.specs.Meaning.{Lent}
 use Rattle.format.proofs.Reached.{reached, skipped, Ends, Refuses, Past, refused, passed, past, clean}
 
--- the number 0 refuses nothing
 abbrev pub Accepts : Answer → Type 0
 Accepts a = a .number ≡ 0
 

@@ -3,12 +3,14 @@
 --   each P k h         what holds of every row's outcome holds of the table's
 --   fails t h          a test that fails is false
 --   rest n k           the rows of k after the first n
---   skipped n k h      where the first n tests fail (Skips), the outcome is that of the rows after them
+--   Skips n k          == the first n tests of k fail
+--   skipped n k h      where they do, the outcome is that of the rows after them
 --   Ends Ok p          == Ok holds of the last line of p, and of no row's outcome
+--   Refuses Ok p       == Ok holds of no row's outcome in p
 --   refused, passed    a table before another: where Ok does not hold of its outcome, that is the outcome of both; where it does, the other goes on
 --   Past x k           == every test of k fails, and x is its last line
---   past               where Ok holds of what a table that Ends so gives, every test fails
---   clean              the same of a table of numbers whose last line alone is 0
+--   past               where Ok holds of the outcome of a table that Refuses, every test fails
+--   clean              where a table of numbers gives 0, which no row of it does, every test fails
 use Prim.Native.Nat.{ℕ, zero, suc}
 use mathlib.Core.Path.{_≡_, refl, subst}
 use mathlib.Core.Bool.{Bool, true, false, cond}
@@ -85,7 +87,6 @@ module _ {A : Type 0} (Ok : A → Type 0) where
   Ends (last a) = Ok a
   Ends (row t a p) = (Holds t → Ok a → ⊥) × Ends p
 
-  -- the same, whatever the last line is
   abbrev pub Refuses : Rows A → Type 0
   Refuses (last a) = Unit {0}
   Refuses (row t a p) = (Holds t → Ok a → ⊥) × Refuses p

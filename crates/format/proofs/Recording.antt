@@ -5,7 +5,7 @@
 --   length-written, bytes-written    how long the record of a difference is, and that it is bytes
 --   length-read, kind-read, count-read, next-read, difference-read, record-accepted
 --                            of a record that was written and stands at an offset: its parts, its end, its difference, and that it is accepted
---   alone-difference, alone-accepted    the same of a record that was written and lent by itself
+--   alone-difference, alone-accepted    of a record written and lent by itself: its difference, and that it is accepted
 --   Record, record-of        the facts about an accepted record, and that an accepted record has them
 --   each-cube                every cube of an accepted record is accepted; 0 is the base
 --   cuts-count, good-read    its difference has as many cuts as its count says, and is Good
@@ -193,7 +193,7 @@ record-of alone w n s at e =
     let c = clean (differenceRows alone w n s at) (omega arith) e in
     omega arith
 
--- its cubes
+-- the cubes of an accepted record
 none-first : (first later : ℕ) → cond (eqb first 0) later first ≡ 0 → (first ≡ 0) × (later ≡ 0)
 none-first zero later e = (refl, e)
 none-first (suc f) later e = absurd (let z : suc f ≡ 0 = rw eqb·suc-zero at e in omega arith)

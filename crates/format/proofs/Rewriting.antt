@@ -1,6 +1,6 @@
 -- What the calls write: where the number is 0, the bytes are accepted again, and hold exactly the headers of the operation.
 --   tidy-same                a tidy file is tidied to the same bytes
---   tidy-again, region-tidy-again    so tidying changes nothing in a file that was written tidied, such as its own
+--   tidy-again, region-tidy-again    tidying changes nothing in a file that was written tidied, such as its own
 --   region-tidy-written, diff-intersect-written, region-intersect-written, diff-less-written, region-less-written
 --                            the region that each call writes
 --   in-region-tidy, in-diff-intersect, in-region-intersect, in-diff-less, in-region-less

@@ -1,9 +1,9 @@
 -- The calls that hand back a stretch of the file or a place in it.
 --   map-at, listed-at        what stands at an index of a list made from another, and at one of an accepted file's offsets
---   view-told                where a view's number is 1, its stretch is that cube
---   read-on-record           where a step's number is 1, it is such a step
---   read-on-end              where it is 2, the file is at its end
---   read-on-stays            where it is not 1, the place stays
+--   view-told                where a view's number is 1, its stretch is the cube asked for (`Seen`)
+--   read-on-record           where a step's number is 1, it gives the accepted record there (`Onward`)
+--   read-on-end              where a step's number is 2, the place is the file's end
+--   read-on-stays            where a step's number is not 1, the place stays
 use Prim.Native.Nat.{ℕ, zero, suc, _+_, _*_, _≤_, _<_}
 use native.Mathlib.Nat.{mul-le-mul-right}
 use native.Mathlib.Omega.{arith}

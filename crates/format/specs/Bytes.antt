@@ -36,7 +36,6 @@ headerLen w = (w + 7) / 8
 abbrev pub cubeLen : ℕ → ℕ
 cubeLen w = (w + 3) / 4
 
--- the places of a cube of w positions that hold no position
 abbrev pub unused : ℕ → ℕ
 unused w = 4 * cubeLen w - w
 
@@ -54,10 +53,10 @@ bits (b ∷ bs) =
 unfoldable pub readHeader : ℕ → List ℕ → Header
 readHeader w bs = take w (bits bs)
 
--- the byte of the first eight bits, zero where there are fewer
 abbrev pub weigh : ℕ → Bool → ℕ
 weigh n b = cond b n 0
 
+-- zero where there are fewer than eight bits
 abbrev pub octet : Header → ℕ
 octet h =
     weigh 128 (getD h 0 false) + weigh 64 (getD h 1 false) + weigh 32 (getD h 2 false) + weigh 16 (getD h 3 false)

@@ -1,5 +1,6 @@
 -- Region files, read.
 --   Reading                == a refusal with its number and offset, or the offsets of the file's differences in their order
+--   before at r            == the reading r with the record at an offset read before it
 --   differencesFrom t w s at n == the kind 2 records from an offset on, with n before it and at most t to come
 --   readFile s             == the file s
 --   faultNumber, faultOffset, offsets == the parts of a reading: the number is 0 where nothing is refused
@@ -29,7 +30,6 @@ abbrev pub offsets : Reading → List ℕ
 offsets (refused f at) = []
 offsets (whole os) = os
 
--- the record at an offset, read before the rest of the file
 abbrev pub before : ℕ → Reading → Reading
 before at (refused f o) = refused f o
 before at (whole os) = whole (at ∷ os)
