@@ -1,4 +1,12 @@
 -- The outcome of each call on two lent cubes, from what the calls on their bytes say.
+--   wroteBytes n bs       == n bytes are written, and they are bs
+--   in-refused, number-refused, meet-refused, wider-refused    where the width or a cube is refused, each call says so
+--   one-size              accepted cubes have as many bytes
+--   in-yes, in-no         whether the first lies in the second
+--   number-first, number-second, number-neither    the number: the first is the wider, the second, or neither
+--   wider-first, wider-second, wider-neither       what is handed back then
+--   meet-apart, meet-short, meet-written    the cubes do not meet; there is no room for the meet; it is written
+--   is-first, is-second, is-neither         the reference handed back is the wider one, or an empty part of a
 use mathlib.Core.Path.{_≡_, refl, sym, ap, ap₂, _∙_}
 use mathlib.Core.List.{List, []}
 use mathlib.Core.Bool.{true, false, not, _||_, or-true}

@@ -1,4 +1,10 @@
 -- The codes of bytes: as many to each byte, one byte after the other, and `&` on bytes is the meet of the codes.
+--   codes-append, codes-drop    the codes of bytes behind bytes, and without the first q bytes
+--   solid-append, free-append   two cubes in a row have no `none`, or are all free, exactly when each is
+--   below4                      a number below 4 is one of four
+--   four-and, codes-and, length-and    the AND of two codes, of bytes: it is the meet, and as long
+--   shares-byte, within-byte    sharing a header and lying within: the first bytes decide with the others
+--   shares-apart, shares-self   cubes of different lengths share none; a cube does with itself if it has no `none`
 use mathlib.Core.Path.{_≡_, refl, sym, ap, ap₂, _∙_}
 use mathlib.Core.List.{List, [], _∷_, _++_}
 use mathlib.Core.Bool.{Bool, true, false, _&&_, and-assoc, and-false, true≢false}
@@ -33,7 +39,6 @@ pub free-append : (a b : Cube) → allFree (a ++ b) ≡ allFree a && allFree b
 free-append [] b = refl
 free-append (x ∷ a) b = ap (λ (t : Bool). isFree x && t) (free-append a b) ∙ sym (and-assoc (isFree x) (allFree a) (allFree b))
 
--- a number below 4 is one of four
 pub below4 : (P : ℕ → Type 0) → P 0 → P 1 → P 2 → P 3 → (n : ℕ) → n < 4 → P n
 below4 P p0 p1 p2 p3 zero h = p0
 below4 P p0 p1 p2 p3 (suc zero) h = p1

@@ -1,8 +1,10 @@
 -- A rule of a table, or of every byte, proved at all entries by one test that antt computes.
+--   every f i xs       == the test f passes at each entry of xs and its place, counted from i
 --   at f xs t k h      the test f, which passes at each entry of xs and its place, passes at the place k
 --   below n f t k h    the test f, which passes at each number below n, passes at k
 --   below2 m n f t j k h l   the test f, which passes at each two numbers below m and n, passes at j and k
---   agree a b          a test that two truths are one
+--   agree a b          == a test that two truths are one
+--   agree-eq           where it passes they are
 use mathlib.Core.Path.{_≡_, refl, _∙_, subst, sym}
 use mathlib.Core.List.{List, [], _∷_}
 use mathlib.Core.Bool.{Bool, true, false, _&&_}
@@ -19,7 +21,6 @@ and-snd : (a b : Bool) → T (a && b) → T b
 and-snd true b t = t
 and-snd false b t = absurd t
 
--- the test f passes at each entry of the list and its place, counted from i
 abbrev pub every : (ℕ → ℕ → Bool) → ℕ → List ℕ → Bool
 every f i [] = true
 every f i (x ∷ xs) = f i x && every f (suc i) xs

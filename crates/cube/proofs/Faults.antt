@@ -1,5 +1,12 @@
 -- What is wrong with a cube's bytes, by parts: the bytes that hold positions alone, the byte that holds the last positions and the first unused places, and
 -- the bytes after it.
+--   fill q              == a byte whose places from the q-th on are filled
+--   byteRows b ones     == the tests of the byte b whose unused places are filled in `ones`
+--   byte-fault, free-byte    what is wrong with a byte of q positions; with one whose places are all 3, nothing
+--   short-fault         what is wrong with bytes that hold positions alone
+--   partRows w c        == the tests of the three parts of c
+--   cube-parts          they say what is wrong with c
+--   lent-length, lent-cube    a lent cube whose length is wrong, and one whose length is right
 use mathlib.Core.Path.{_≡_, refl, sym, ap, _∙_}
 use mathlib.Core.List.{List, [], _∷_}
 use mathlib.Core.Bool.{Bool, true, false, not, _&&_, cond}
@@ -19,7 +26,7 @@ use Rattle.cube.proofs.Every.{below, below2}
 use Rattle.cube.proofs.Parts.{take-parts, drop-parts}
 use Rattle.cube.proofs.Codes.{codes-append, solid-append, free-append}
 
--- a byte whose places from the q-th on are filled: its positions alone can hold code 0
+-- in a byte so filled the positions alone can hold code 0
 abbrev pub fill : ℕ → ℕ
 fill q = 255 / 2 ^ (2 * q)
 
@@ -49,7 +56,7 @@ short-fault w c h t e =
     go true = refl
     go false = refl
 
--- the byte after the positions that are by fours
+-- the bytes that hold four positions each, the byte behind them, and the bytes after it
 abbrev pub partRows : ℕ → List ℕ → Rows ℕ
 partRows w c =
     row (so (not (solid (codes (take (w / 4) c))))) 13

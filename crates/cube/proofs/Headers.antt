@@ -1,4 +1,8 @@
 -- The bits of header bytes, and where one is set.
+--   bits-append     the bits of bytes behind bytes
+--   ones-after      whether a bit of a byte is set from its q-th place on
+--   none-after      no bit is set behind the last byte
+--   some-after      a bit is set from a position on exactly when one is in the rest of its byte or in the bytes after
 use mathlib.Core.Path.{_≡_, refl, sym, ap, _∙_}
 use mathlib.Core.List.{List, [], _∷_, _++_}
 use mathlib.Core.Bool.{Bool, false, not, _||_, or-assoc}

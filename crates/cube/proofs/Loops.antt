@@ -1,5 +1,8 @@
 -- Loops over bytes that gather, by OR in one number, what is wrong at each place. The invariant: the number is 0 and what is left is right, exactly when the
 -- whole is right.
+--   xor-zero     the XOR of two numbers is 0 exactly when they are equal
+--   gathered     the invariant holds after one byte more
+--   ended        after the last byte the number tells of the whole
 use mathlib.Core.Path.{_≡_, refl, sym, ap, _∙_}
 use mathlib.Core.List.{List, [], _∷_}
 use mathlib.Core.Bool.{Bool, true, false, _&&_, and-assoc, and-true}

@@ -1,4 +1,5 @@
 -- Membership by bytes: a header is in an accepted cube exactly when the cube that spells it lies in that cube.
+--   codes-take      the codes of the first n bytes
 --   spelled-in      of the bytes of `spelled`, as many as the cube has
 use mathlib.Core.Path.{_≡_, refl, sym, ap, ap₂, _∙_}
 use mathlib.Core.List.{List, [], _∷_, _++_, map}

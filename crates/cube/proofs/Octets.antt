@@ -1,4 +1,9 @@
 -- What arithmetic on a byte says of its codes and bits: each rule is one test that antt computes at all 256 bytes.
+--   gaps x          == the lower bit of each place of x that has no bit set
+--   gaps-solid      a byte has no code 0 exactly when it has no such place
+--   full-free       a byte is 255 exactly when all its codes are 3
+--   zero-clear      a byte is 0 exactly when no bit of it is set
+--   quad-codes      a byte is the byte of its four codes
 use mathlib.Core.Path.{_≡_}
 use mathlib.Core.List.{[], _∷_}
 use mathlib.Core.Bool.{not}
@@ -9,7 +14,6 @@ use Rattle.model.specs.Cube.{solid}
 use Rattle.format.specs.Bytes.{bits, anyBit, codes, quad, allFree}
 use Rattle.cube.proofs.Every.{below, agree, agree-eq}
 
--- a byte without code 0 has a bit of each place set
 abbrev pub gaps : ℕ → ℕ
 gaps x = bitXor (bitAnd (bitOr x (x / 2)) 0x55) 0x55
 

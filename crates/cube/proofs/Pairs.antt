@@ -1,5 +1,6 @@
 -- Two cubes as bytes: lying in each other, and the meet written over the front of a buffer.
 --   lies-within, lies-apart    `liesIn` asks for one length and for `within`
+--   into-turn, into-all        the loop that writes a meet: one byte more, and its end
 --   into-over                  a meet that fits is written over the front of the buffer, and the rest is kept
 use mathlib.Core.Path.{_≡_, refl, ap}
 use mathlib.Core.List.{List, [], _∷_}

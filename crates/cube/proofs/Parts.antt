@@ -1,5 +1,4 @@
 -- Lists that bytes spell, a stretch for each byte, cut in the middle of a byte: what stands before, the byte's own stretch cut, and what stands after.
---
 --   take-parts, drop-parts   the list up to a place of such a byte, and from it on
 --   first-part, last-part    the parts of a slice that code lends
 --   drop-take                a part that begins behind others

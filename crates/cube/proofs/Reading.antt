@@ -1,5 +1,6 @@
 -- Accepted cubes: what is asked of their bytes is asked of the cubes that they read as.
 --   lent-clean      an accepted lent cube has its length, and no fault
+--   bytes-all       numbers that are each below 256 are bytes
 --   read-shares, read-lies     sharing a header and lying in
 --   read-meet       the AND of the bytes is what writing the meet writes
 use mathlib.Core.Path.{_≡_, sym, ap₂, _∙_}
@@ -26,7 +27,6 @@ lent-clean w c e =
     let l = clean (lentRows w c) (omega arith) e .0 in
     (l, lent-cube w c l ∙ e)
 
--- what a slice of bytes is known to hold
 pub bytes-all : (c : List ℕ) → ((i : ℕ) → getD c i 0 < 256) → Bytes c
 bytes-all [] h = tt
 bytes-all (x ∷ c) h = (h 0, bytes-all c (λ i. h (suc i)))
@@ -49,7 +49,6 @@ module _ (w : ℕ) (a b : List ℕ) (la : length a ≡ cubeLen w) (lb : length b
       sym (lies-within a b (la ∙ sym lb)) ∙ ap₂ within (read-padded w a la fa) (read-padded w b lb fb)
       ∙ within-pad (unused w) (readCube w a) (readCube w b) one-length
 
-  -- of the bytes, so many are written
   pub read-meet : Bytes a → writeCube (meet (readCube w a) (readCube w b)) ≡ andBytes a b
   read-meet h =
       let m = meet (readCube w a) (readCube w b) in

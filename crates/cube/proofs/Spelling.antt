@@ -1,5 +1,10 @@
 -- The cube that fixes each bit of a header, as bytes.
 --   within-holds    that cube lies in another exactly when the other holds the header
+--   map-append      what is made of each of two lists in a row
+--   four b          == the last four bits of a byte, spelled
+--   same-T          a test of `same` that passes tells that cubes are equal
+--   Spelt h i c     == the loop's invariant: i bytes of h are spelled in c, and every other bit is zero
+--   spelt-start, spelt-turn, spelt-end    it holds at the start and after one byte more, and at the end all is spelled
 use mathlib.Core.Path.{_≡_, refl, sym, ap, ap₂, _∙_}
 use mathlib.Core.List.{List, [], _∷_, _++_, map, append-assoc, append-nil}
 use mathlib.Core.Bool.{Bool, true, false, _&&_}
@@ -43,7 +48,6 @@ pub map-append : {A B : Type 0} (f : A → B) (a b : List A) → map f (a ++ b) 
 map-append f [] b = refl
 map-append {B = B} f (x ∷ a) b = ap (λ (r : List B). f x ∷ r) (map-append f a b)
 
--- the last four bits of a byte, spelled
 abbrev pub four : ℕ → Cube
 four b = map bitCode (drop 4 (bits (b ∷ [])))
 
@@ -70,7 +74,7 @@ take-copies zero m h = refl
 take-copies (suc n) zero h = absurd (omega arith)
 take-copies (suc n) (suc m) h = ap (λ (c : Cube). v0 ∷ c) (take-copies n m (omega arith))
 
--- the loop: the bytes of the first i header bytes are spelled, and every other bit is zero
+-- the loop
 abbrev pub Spelt : List ℕ → ℕ → List ℕ → Type 0
 Spelt h i c = (done : List ℕ) × (length done ≡ 2 * i) × (c ≡ done ++ replicate (80 - 2 * i) 0x55) × (codes done ≡ map bitCode (bits (take i h)))
 

@@ -1,4 +1,8 @@
 -- What is asked of the first bytes of two lists, for each loop over bytes, and that what is left is asked of the others.
+--   free-step      every code is 3
+--   set-step       no bit is set
+--   shares-step    two cubes share a header
+--   within-step    the first cube lies in the second
 use mathlib.Core.Path.{_≡_, refl, sym, ap, _∙_}
 use mathlib.Core.List.{List, [], _∷_}
 use mathlib.Core.Bool.{Bool, true, false, not, _&&_, _||_, or-assoc}

@@ -1,4 +1,4 @@
--- `cube::code::fill` meets its contract.
+-- `cube::code::fill` meets its contract. The loop's invariant: the first i bytes are 255, the others as they were.
 use Prim.Native.Nat.{_-_, _≤_}
 use native.Mathlib.Omega.{arith}
 use mathlib.Core.Path.{_≡_, refl, _∙_}

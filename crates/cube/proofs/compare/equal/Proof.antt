@@ -1,4 +1,4 @@
--- `cube::compare::equal` meets its contract.
+-- `cube::compare::equal` meets its contract. The loop's invariant: the bytes from i on decide.
 use Prim.Native.Nat.{_-_, _≤_}
 use native.Mathlib.Omega.{arith}
 use mathlib.Core.Path.{_≡_, refl, sym}
