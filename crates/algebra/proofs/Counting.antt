@@ -1,10 +1,11 @@
 -- Counting a result, one difference after another.
+--   long-append, bytes-append    whether regions in a row have a difference with too many cuts, and their bytes
 --   count-none       nothing is counted yet
 --   add-none         nothing is added
 --   add-long         a difference with too many cuts
 --   add-past         one more where there are too many already
 --   add-more         one more
---   count-over       where one has too many cuts, so it is of what comes after
+--   count-over       where a difference has too many cuts, what is counted stands whatever comes after
 use Prim.Native.Nat.{ℕ, _+_, _*_, _≤_, _<_}
 use native.Mathlib.Omega.{arith}
 use mathlib.Core.Path.{_≡_, refl, sym, ap, _∙_}
@@ -91,7 +92,6 @@ module _ (q : ℕ) (d : Difference) (out : List ℕ) (sum : Totals) (short : sum
               rw (b) (put (omega (arith, r2)) ∙ rw o (over-more old (differencesBytes (4 * q) done) (differenceBytes (4 * q) d) (sum .size) (sym z)));
         }
 
--- a difference with too many cuts is one of the whole result
 pub count-over : (q : ℕ) (r s : Region) (old new : List ℕ) (t : Totals) → Counted q r old new t → t .long ≡ true → Counted q (r ++ s) old new t
 count-over q r s old new t c e =
     record {

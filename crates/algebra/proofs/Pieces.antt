@@ -1,5 +1,8 @@
 -- The base of a piece, and the piece tidied.
 --   base-own, base-none, base-met   the base as it is, none, or met with the stop's cube
+--   piece-none       there is no base, so no piece
+--   piece-omitted, piece-covered    a cut of the first stretch covers the base; one of the second does
+--   piece-kept       the piece tidied stands in the buffer
 use Prim.Native.Nat.{ℕ, _+_, _-_, _≤_}
 use native.Mathlib.Omega.{arith}
 use mathlib.Core.Path.{_≡_, sym, ap, _∙_}
@@ -27,7 +30,7 @@ use Rattle.algebra.specs.declared.stop.Stop.{Stop}
 use Rattle.cube.proofs.Laying.{put-fits, put-front, back-laid}
 use Rattle.algebra.proofs.Taking.{kept-most}
 
--- the part of q bytes that is lent from an offset on
+-- the base of the piece of the difference with the front f and the stop p, put into a buffer that held old
 module _ (q : ℕ) (s : List ℕ) (f : Front) (t : List ℕ) (p : Stop) (old new : List ℕ) (own : f .base + q ≤ length s) (room : q ≤ length old) where
   -- bytes laid over the front of the buffer
   front : (bytes : List ℕ) → length bytes ≡ q → new ≡ over old bytes → wholeAt q new 0 ≡ codes bytes

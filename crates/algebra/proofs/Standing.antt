@@ -3,7 +3,7 @@
 --   file-runs, record-runs     those of an accepted file, and of an accepted single record
 --   ShowsRegion w p r        == the region p of differences of whole bytes is the region r of width w
 --   tidy-stand, intersect-stand, less-stand    the operands of each operation stand
---   tidy-shown, intersect-shown, less-shown    and what it makes is shown
+--   tidy-shown, intersect-shown, less-shown    what each operation makes is its region, tidied
 --   whole-written      what is told of a result that is to be written
 use Prim.Native.Nat.{ℕ, zero, suc, _+_, _*_, _≤_, _<_}
 use native.Mathlib.Omega.{arith}

@@ -1,5 +1,11 @@
 -- Taking the next cut of a piece.
 --   cut-apart, cut-covered, cut-again, cut-more   what becomes of it: dropped, the difference omitted, dropped, or kept behind the others
+--   slot base k      == where the next cut goes that is kept
+--   TakesOn base old k cs now j ds == the cuts cs, taken with k kept in `old`, come to the cuts ds, to be taken with j
+--                    kept in `now`
+--   row-kept, row-omitted, row-taken    a turn of taking a row of cuts: the next taken, the base covered, none left
+--   kept-most        a piece of which at most n cuts are kept keeps no more
+--   row-fits         where a row fits, a shorter one fits
 use Prim.Native.Nat.{ℕ, _+_, _-_, _*_, _≤_, _<_}
 use native.Mathlib.Nat.{mul-le-mul-right}
 use native.Mathlib.Omega.{arith}
@@ -20,7 +26,6 @@ use Rattle.cube.proofs.Laying.{front-laid, here-laid}
 use Rattle.cube.proofs.Wholes.{wholes-turn, wholes-none, wholes-more, wholes-front}
 use Rattle.algebra.proofs.Meeting.{met-codes, met-length}
 
--- where the next cut goes that is kept
 abbrev pub slot : List ℕ → ℕ → ℕ
 slot base k = length base + k * length base
 
@@ -67,7 +72,7 @@ module _ (base s old : List ℕ) (at k : ℕ) where
             few = omega arith;
           }
 
--- the cuts cs, taken with k kept in `old`, come to the cuts ds, to be taken with j kept in `now`
+-- a row of cuts
 abbrev pub TakesOn : List ℕ → List ℕ → ℕ → List Cube → List ℕ → ℕ → List Cube → Type 0
 TakesOn base old k cs now j ds =
     (later : List Cube) → tidyFrom (codes base) (keptIn base old k) (cs ++ later) ≡ tidyFrom (codes base) (keptIn base now j) (ds ++ later)
@@ -97,6 +102,5 @@ module _ (base old : List ℕ) (k : ℕ) (cs : List Cube) (s now : List ℕ) (j 
 pub kept-most : (m : Made) (i n : ℕ) → m ≡ Kept i → most m ≤ n → i ≤ n
 kept-most m i n e h = rw e at h
 
--- a row that fits: fewer cubes fit too
 pub row-fits : (i n q l : ℕ) → i ≤ n → n * q ≤ l → i * q ≤ l
 row-fits i n q l h f = omega (arith, mul-le-mul-right q h)

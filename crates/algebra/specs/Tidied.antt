@@ -3,7 +3,7 @@
 --   keptIn base buf k      == the k cuts that are kept in the buffer
 --   onward base buf m cs   == what becomes of the piece m with the cuts cs to take
 --   held q buf m           == the difference that the buffer holds, or none
---   most m                 == how many cuts are kept of it
+--   most m                 == how many cuts are kept of the piece m
 --   Taken base old k cs new m n == the cuts cs, taken with k kept in the buffer old, leave the piece m with at most n kept in the buffer new
 use Prim.Native.Nat.{ℕ, _+_, _*_, _≤_}
 use mathlib.Core.Path.{_≡_}

@@ -70,6 +70,5 @@ pub record PutBehind (k q : ℕ) (cubes : List ℕ) (o : ℕ) (old : List ℕ) (
   pub ends : r ≡ o + recordLen k q
   pub there : r ≤ length old → new ≡ laid old o (differenceBytes (4 * q) (rowDifference k q cubes))
 
--- the region r is counted after what sum counts
 abbrev pub Adds : ℕ → Region → List ℕ → Totals → List ℕ → Totals → Type 0
 Adds q r out sum new next = (done : Region) (old : List ℕ) → Counted q done old out sum → Counted q (done ++ r) old new next

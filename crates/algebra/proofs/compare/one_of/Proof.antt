@@ -1,4 +1,4 @@
--- `algebra::compare::one_of` meets its contract.
+-- `algebra::compare::one_of` meets its contract. The loop's invariant: the cubes left decide.
 use Prim.Native.Nat.{_+_, _*_, _≤_}
 use native.Mathlib.Omega.{arith}
 use mathlib.Core.Path.{_≡_, refl, sym, _∙_}

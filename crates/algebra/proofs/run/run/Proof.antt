@@ -1,4 +1,5 @@
--- `algebra::run::run` meets its contract.
+-- `algebra::run::run` meets its contract. The loop's invariant (`Going`): what the pairs passed
+-- make is counted and written, and the other pairs make the rest.
 use Prim.Native.Nat.{_+_, _-_, _*_}
 use native.Mathlib.Omega.{arith}
 use mathlib.Core.Path.{_≡_, refl, sym, ap, ap₂, _∙_}

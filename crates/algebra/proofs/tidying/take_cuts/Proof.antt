@@ -1,4 +1,5 @@
--- `algebra::tidying::take_cuts` meets its contract.
+-- `algebra::tidying::take_cuts` meets its contract. The loop's invariant (`TakesOn`): the cuts passed are
+-- taken, and those left are to be taken with the cuts that are kept.
 use Prim.Native.Nat.{_+_, _*_, _≤_}
 use native.Mathlib.Omega.{arith}
 use mathlib.Core.Path.{_≡_, _∙_}
