@@ -1,5 +1,6 @@
 -- One turn of looking through cubes that stand one after the other.
 --   room              where k cubes have room, there is room for the first, and for the others after it
+--   cubes-none        with no cube left there is no fault
 --   cubes-bad, cubes-next   a bad cube is the first bad one; after a good one the first bad one is sought in the others
 use Prim.Native.Nat.{ℕ, zero, suc, _+_, _-_, _*_, _≤_, _<_}
 use native.Mathlib.Numerals.{sub-one}

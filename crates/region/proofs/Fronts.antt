@@ -1,12 +1,12 @@
 -- The front of a record.
 --   tail             the part of a slice from an offset to its end
 --   front-here       what is read behind an offset is the front there
---   front-end        so is nothing at the end
---   front-own, front-same    the front there is the front there, and there is no other
+--   front-end        where the slice has no byte the front is of zeros, and its offsets are the slice's end
+--   front-own, front-same    `FrontIs` holds of the front there, and of no other
 --   after-alone, after-others    the bytes after a record, where none may follow it, and where others may
 --   front-base, front-next    an accepted record's base and end lie within its bytes, so its front has them as they are
---   front-stands     it stands there
---   whole-record     its difference of whole bytes is the model's, with the unused places behind each cube
+--   front-stands     an accepted record stands where its front says
+--   whole-record     an accepted record's difference of whole bytes is the model's, with unused places behind each cube
 use Prim.Native.Nat.{ℕ, suc, _+_, _-_, _*_, _≤_, min}
 use native.Mathlib.Nat.{add-zero}
 use native.Mathlib.Omega.{arith}
@@ -24,7 +24,6 @@ use Rattle.cube.proofs.Wholes.{whole-padded, wholes-padded}
 use Rattle.region.specs.declared.front.Front.{Front}
 use Rattle.region.specs.Front.{frontAt, FrontIs, Stands, wholeDifference}
 
--- the part of a slice from an offset to its end
 pub tail : (s : List ℕ) (at : ℕ) → take (length s - at) (drop at s) ≡ drop at s
 tail s at = take-all (length s - at) (drop at s) (simp length-drop (omega arith))
 

@@ -61,7 +61,7 @@ module _ (q : ℕ) (h s : List ℕ) (a k : ℕ) where
   unfolding heldBy
   record-in b r e t f = rw (← e, t, f)
 
--- what it means of the header that h has bytes of, where c spells it
+-- what the answer means, where c spells the header of the bytes h
 module _ (w : ℕ) (h c : List ℕ) (narrow : w ≤ widest) (l : length h ≡ headerLen w) (e : codes c ≡ spelledCube h) where
   here-holds : (s : List ℕ) (a : ℕ) → a + cubeLen w ≤ length s → cubeFault w (take (cubeLen w) (drop a s)) ≡ 0
       → cubeIn (cubeLen w) c s a ≡ holds (cubeAt w s a) (readHeader w h)

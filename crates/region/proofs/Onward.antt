@@ -5,12 +5,12 @@
 --   listed-ahead                of accepted records they are those that are listed
 --   seek-end, seek-here, seek-turn   the offset that has d before it
 --   AllAccepted w s at          the records from an offset to the end are all accepted
---   onward-file, file-ahead, file-region   so they are in an accepted file from the first on, and these are the offsets and the region that reading it
---                               gives
+--   onward-file, file-ahead, file-region   in an accepted file the records from the first on are, and theirs are the
+--                               offsets and the region that reading the file gives
 --   file-some                   an accepted file has bytes
 --   file-read                   a file where the reader found no fault is accepted
 --   onward-record               the record here is accepted
---   onward-next                 those after it are
+--   onward-next                 the records after it are all accepted
 use Prim.Native.Nat.{ℕ, zero, suc, _+_, _-_, _≤_, _<_}
 use native.Mathlib.Numerals.{sub-one}
 use native.Mathlib.Omega.{arith}

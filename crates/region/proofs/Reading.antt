@@ -1,12 +1,12 @@
 -- Reading a file record by record: where the reader is, one turn, and what it gives back at a refusal and at the end. What is done at each accepted
 -- record is said of the offsets passed.
---   Reached s at n           the reader is at an offset, after n accepted records, which it passed
---   begun                    so it is after kind 1
---   turned                   and after a record more
---   width-refused, record-refused, ended    what it gives back
---   Asking s h at n held     the same where a header is asked of each record: `held` is whether what h spells is in one that was passed
---   asking, asked-turned     so it is at the start, and after a record more
---   asked-width, asked-refused, asked-ended    what it gives back
+--   after os r               == the reading r with the records at the offsets os read before it
+--   Reached s at n           == the reader is at an offset, after n accepted records, which it passed
+--   begun, turned            it is there after an accepted kind 1 record, and after one accepted record more
+--   width-refused, record-refused, ended    what is given back: kind 1 refused, a record refused, the end reached
+--   Asking s h at n held     == Reached, and `held` is whether what h spells is in one of the records passed
+--   asking, asked-turned     Asking holds after an accepted kind 1 record, and after one accepted record more
+--   asked-width, asked-refused, asked-ended    what is given back: kind 1 refused, a record refused, the end reached
 use Prim.Native.Nat.{ℕ, _+_, _-_, _≤_, _<_}
 use native.Mathlib.Omega.{arith}
 use mathlib.Core.Path.{_≡_, refl, sym, ap, _∙_}
@@ -19,7 +19,6 @@ use Rattle.format.proofs.Filing.{from-end, from-refused, from-record, read-refu
 use Rattle.region.specs.Asked.{inRecord, anyRecord}
 use Rattle.region.specs.Reader.{FileIs, refusal, AskedIs, unasked}
 
--- records read before the rest of a file
 abbrev pub after : List ℕ → Reading → Reading
 after os (refused f at) = refused f at
 after os (whole rest) = whole (os ++ rest)

@@ -1,8 +1,8 @@
 -- Reading on from place 0, step after step. Reading on does not count the differences, so a file that is refused with 19 is read on past its 256th
 -- difference: what comes after the differences before the refused record is said for every other refusal.
 --   accepted-steps    an accepted file's steps give each difference once, in order, at its record's offset, and then 2 for ever
---   passed-steps      a refused file's first steps give the differences before the refused record so
---   refused-steps     and then, but for 19, that refusal for ever
+--   passed-steps      a refused file's first steps give likewise the differences before the refused record
+--   refused-steps     the steps after them give, but for 19, that refusal for ever
 --   told-answers      a reader's steps are those of reading on in its file from its place
 use Prim.Native.Nat.{ℕ, zero, suc, _+_, _-_, _≤_, _<_}
 use native.Mathlib.Nat.{add-zero, zero-add, suc-add}
@@ -67,7 +67,7 @@ uncounted-record : {w n : ℕ} {s : List ℕ} {at : ℕ} → Record false w n s 
 unfolding differenceFault
 uncounted-record {w} {n} {s} {at} r = sym (reached 9 (differenceRows false w 0 s at) (omega (arith, r))) ∙ r .cubes
 
--- and so is one refused, but for its count
+-- a record that is refused is refused so with none before it, if it is not for the count
 leave-count : (a b c d e : Bool) (x : ℕ) → (cond a 15 (cond b 15 (cond c 17 (cond d 16 (cond e 19 x)))) ≡ 19 → ⊥)
     → cond a 15 (cond b 15 (cond c 17 (cond d 16 (cond e 19 x)))) ≡ cond a 15 (cond b 15 (cond c 17 (cond d 16 x)))
 leave-count true b c d e x z = refl
@@ -129,7 +129,7 @@ later-refused at (whole os) e = absurd (stops (whole (at ∷ os)) e)
 abbrev Goes : List ℕ → ℕ → ℕ → ℕ → ℕ → Type 0
 Goes s at p o q = (m : ℕ) → answers (length (beforeAt o (ahead s at)) + m) s p ≡ map placed (beforeAt o (ahead s at)) ++ answers m s q
 
--- so they come to the record at o, which is refused with f where n records are counted before it
+-- the steps come to the record at o, which is refused with f where n records are counted before it
 record Stopped (s : List ℕ) (f at o p : ℕ) : Type 0 where
   past : at ≤ o
   inside : o < length s

@@ -1,12 +1,11 @@
 -- Records, as they are written.
 --   all-bytes      a list whose every element is below 256 holds bytes
---   write-codes, row-bytes    the codes of bytes, and a row of cubes, are written as those bytes
 --   front-length   how long the front is
 --   record-bytes   the front before the cubes makes the bytes of the difference that they hold
 --   cubes-few, record-len, record-longest   within the limits: how many bytes the cubes take at most, and the record
 --   front-put, record-put     what a buffer holds when the front, or the record, was put and fits
 --   record-few, record-short, record-done   the ends of the writing: fewer cubes, no room, and both parts put
---   record-length  how long the bytes of such a difference are
+--   record-length  how long the bytes of the difference are that cubes in a row hold
 use Prim.Native.Nat.{ℕ, zero, suc, _+_, _-_, _*_, _≤_, _<_}
 use native.Mathlib.Nat.{mul-le-mul, zero-add}
 use native.Mathlib.Omega.{arith}

@@ -2,8 +2,8 @@
 --   cubeIn q h s a      == the first q bytes of h, as a cube, lie in the q bytes of s at an offset
 --   anyIn q h s a k     == they lie in one of the k cubes from an offset on
 --   heldBy q h s a k    == they lie in the first cube from an offset on and in none of the k after it
---   inRecord w h s at   == so it is of the base and the cuts of the record at an offset
---   anyRecord w h s os  == so it is of a record at one of the offsets os
+--   inRecord w h s at   == they lie in the base of the record at an offset, of w positions, and in none of its cuts
+--   anyRecord w h s os  == inRecord holds at one of the offsets os
 use Prim.Native.Nat.{ℕ, zero, suc, _+_}
 use mathlib.Core.List.{List, [], _∷_}
 use mathlib.Core.Bool.{Bool, false, not, _&&_, _||_}

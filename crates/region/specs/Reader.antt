@@ -3,7 +3,7 @@
 --   FileIs s r              == r is what reading the file s gives: its refusal and where, its width, how many differences it has
 --   refusal number at w     == a refused file's parts
 --   AskedIs s h r           == r is what reading the file s gives, and whether what h spells is in one of its differences; a refused file has none
---   unasked number at w     == a refused file's parts
+--   unasked number at w     == a refused file's parts, where a header was asked
 use Prim.Native.Nat.{ℕ}
 use mathlib.Core.Path.{_≡_}
 use mathlib.Core.List.{List}

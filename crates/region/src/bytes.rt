@@ -1,4 +1,4 @@
-// Numbers at a place of a slice. Where the slice has no byte it is read as 0.
+// Numbers at a place of a slice. A byte that the slice does not have is read as 0.
 ghost use mathlib.Core.Path.{_≡_};
 ghost use Prim.Native.Nat.{_<_};
 ghost use lib.ListN.{getD};

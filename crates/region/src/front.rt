@@ -1,4 +1,4 @@
-// What stands in front of a record's cubes, read once. Nobody else knows how a record is laid out.
+// What stands in front of a record's cubes, read once. Only this and the writer know how a record is laid out.
 ghost use Prim.Native.Nat.{_<_};
 ghost use Rattle.region.specs.Front.{FrontIs};
 use super::bytes::byte_at;

@@ -28,7 +28,7 @@ pub fn one_refusal(w: usize, s: &[u8]) -> Answer
     record_refusal(w, s, 1)
 }
 
-// The same with two records.
+// The refusal of a width given directly or of one of the two records beside it, or the number 0.
 pub fn two_refusal(w: usize, s: &[u8], t: &[u8]) -> Answer
     ensures { λ r. ⌜ r ≡ outcome (twoRecords w (now (s .entry)) (now (t .entry))) ⌝ }
 {

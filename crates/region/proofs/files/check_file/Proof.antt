@@ -1,4 +1,5 @@
--- `region::files::check_file` meets its contract.
+-- `region::files::check_file` meets its contract. The loop's invariant (`Reached`): the n records passed
+-- are accepted.
 use Prim.Native.Nat.{_-_}
 use native.Mathlib.Omega.{arith}
 use mathlib.Core.Bool.{false}

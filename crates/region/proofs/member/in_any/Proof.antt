@@ -1,4 +1,4 @@
--- `region::member::in_any` meets its contract.
+-- `region::member::in_any` meets its contract. The loop's invariant: the cubes left decide.
 use Prim.Native.Nat.{_+_, _-_, _*_, _≤_}
 use native.Mathlib.Omega.{arith}
 use mathlib.Core.Path.{_≡_, refl, _∙_}

@@ -1,4 +1,4 @@
--- `region::offset::seek` meets its contract.
+-- `region::offset::seek` meets its contract. The loop's invariant: the offset sought is `left` records on.
 use mathlib.Core.Path.{_≡_, refl, sym, _∙_}
 use lib.ListN.{length, getD}
 use borrow.Author.Needs.{needs}

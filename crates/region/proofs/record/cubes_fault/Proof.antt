@@ -1,4 +1,4 @@
--- `region::record::cubes_fault` meets its contract.
+-- `region::record::cubes_fault` meets its contract. The loop's invariant: the cubes left have the fault of all.
 use borrow.Author.Needs.{needs}
 use native.Mathlib.Omega.{arith}
 use native.Mathlib.Nat.{add-sub-cancel-left}

@@ -17,7 +17,7 @@ clear : (c : tie.Else1) → let p = c .before .before .before .args in Past 0 (n
 clear c =
     let p = c .before .before .before .args in numbers-clean (p .alone) (p .w) (p .n) (p .s .now) (p .at) _ (c .before .numbers-fault .ensures) (c .if1 .left)
 
--- so its cubes lie where its front says
+-- the record's cubes then lie where its front says
 within : (c : tie.Else1)
     → let p = c .before .before .before .args in baseAt (p .s .now) (p .at) + (countAt (p .s .now) (p .at) + 1) * cubeLen (p .w) ≤ length (p .s .now)
 unfolding baseAt frontLen
