@@ -4,6 +4,7 @@
 --   words-hold               words that hold 80 bytes have their codes
 --   unloaded, byte-out       bytes taken out of words have their codes
 --   word-more, row-more      one word, and one row, more
+--   Down, down               the facts about the cut of row m, when cuts are taken from the last to the first
 use Prim.Native.Nat.{ℕ, suc, _+_, _-_, _*_, _/_, _%_, _^_, _≤_, _<_}
 use native.Mathlib.Nat.{mod-mod, mul-add-mod-self-right, suc-mul, mul-le-mul-right}
 use native.Mathlib.Omega.{arith}
@@ -118,7 +119,6 @@ byte-out ws bytes b l h f k i =
     let x = getD ws (b / 8) 0 / 2 ^ (56 - 8 * (b % 8)) in
     ⊎-elim (λ (e : k ≡ b). rw (e, getD-set-same bytes b (bitAnd x 255) 0 (omega arith)) (and-mask x 8)) (λ (e : k ≡ b → ⊥). getD-set-other bytes b k (bitAnd x 255) 0 e ∙ f k (omega arith)) (same-or-not k b)
 
--- one word, and one row, more
 pub word-more : (P ws : List ℕ) (w x : ℕ) → w < length ws → HoldsBytes P 8 (8 * w) x → ((v : ℕ) → v < w → HoldsBytes P 8 (8 * v) (getD ws v 0))
     → (v : ℕ)
     → v < w + 1 → HoldsBytes P 8 (8 * v) (getD (set ws w x) v 0)

@@ -1,11 +1,16 @@
 -- Digits of numbers.
 --   same-or-not, below-or   two numbers are the same or not; one is below the other or not
 --   or-none, xor-none       what `|` and `^` leave 0
---   digit-and, digit-xor    the digits of base 2 of `&` and `^`; place-and, place-or: those of base 4 of `&` and `|`
+--   digit-and, digit-xor    the digits of base 2 of `&` and `^`
+--   place-and, place-or     the digits of base 4 of `&` and `|`
+--   same-low                numbers with the same n low digits have the same w digits from j on, where those lie below
 --   digit-below, digit-top  the digits below 2 ^ n of a number, and the digit 2 ^ n of one that has it at the top
+--   threes-at               a word of all digits has 3 at each place
 --   openings-right          the places where a cut opens a piece, by `&`, `^` and `>>`
 --   Top, top-of             the highest digit of a number
 --   given-right             a digit 3 of base 4 made smaller
+--   taken-fits, taken-there    what is taken off for that is a word, and no more than there is
+--   leading-small           a word that is not 0 has at most 63 leading zeros
 use Prim.Native.Nat.{ℕ, zero, suc, _+_, _-_, _*_, _/_, _%_, _^_, _≤_, _<_}
 use native.Mathlib.Nat.{mod-lt, add-mul, mul-add-mod-self-right, mul-le-mul-right}
 use native.Mathlib.Omega.{arith}
@@ -55,8 +60,7 @@ place-and k x y = rw (and-shr x y (62 - 2 * k)) (and-mod (x / 2 ^ (62 - 2 * k)) 
 pub place-or : (k x y : ℕ) → placeAt (bitOr x y) k ≡ bitOr (placeAt x k) (placeAt y k)
 place-or k x y = rw (or-shr x y (62 - 2 * k)) (or-mod (x / 2 ^ (62 - 2 * k)) (y / 2 ^ (62 - 2 * k)) 2)
 
--- a number with 2 ^ n taken off its top
--- two numbers with the same n low digits have the same w digits from j on, where those lie below
+-- w digits from j on
 low-field : (d w j x : ℕ) → x / 2 ^ j % 2 ^ w ≡ x % 2 ^ (d + w + j) / 2 ^ j % 2 ^ w
 low-field d w j x = sym (mod-mod-pow (x / 2 ^ j) d w) ∙ rw (← field x (d + w) j)
 
@@ -163,7 +167,6 @@ top-of x h l =
     let e : 63 - leadingZeros 64 x ≡ t .0 = omega (arith, t .1) in
     rw e (record { small = omega (arith, t .1); under = t .3; over = t .2 })
 
--- a digit 3 of base 4 made smaller
 pub given-right : (x k v : ℕ) → k < 32 → v ≤ 3 → placeAt x k ≡ 3 → GivenWord x k v (x - (3 - v) * 2 ^ (62 - 2 * k))
 given-right x k v h l e = (at, elsewhere)
   where
@@ -202,7 +205,6 @@ given-right x k v h l e = (at, elsewhere)
         ⊎-elim (λ (z : j < k). let d : 62 - 2 * j ≡ s + 2 + (2 * (k - j) - 2) = omega arith in rw d (ap (λ (m : ℕ). m % 4) (later (2 * (k - j) - 2))))
         (λ (z : k ≤ j). same-low r x s 2 (62 - 2 * j) below (omega arith)) (below-or j k)
 
--- the word that is taken off
 pub taken-fits : (k v : ℕ) → (3 - v) * 2 ^ (62 - 2 * k) % 2 ^ 64 ≡ (3 - v) * 2 ^ (62 - 2 * k)
 taken-fits k v = shl-exact 2 (62 - 2 * k) 64 (omega arith) (omega arith)
 

@@ -1,9 +1,11 @@
 -- The tables of a long walk.
 --   DigitMore, digit-more     a number takes a digit above all that it has
 --   free-words                words of all digits are a cube of free positions
---   enter-fits, enter-turn, enter-end   a cut is entered, position by position
---   EnteredAll, entered-more  the cuts are entered, one after another
+--   fresh, enter-fits, enter-turn, enter-end   a cut is entered, position by position
+--   agree-turn                where a position takes the cut's code, the others are free or the cut's as before
+--   EnteredAll, entered-none, entered-more  the cuts are entered, one after another
 --   met-more                  the cuts that a piece meets, one after another
+--   part-row                  the part of the bytes that is lent is the cut of row m
 use Prim.Native.Nat.{ℕ, zero, suc, _+_, _-_, _*_, _/_, _%_, _^_, _≤_, _<_}
 use native.Mathlib.Nat.{div-eq-of-lt}
 use native.Mathlib.Omega.{arith}
@@ -26,7 +28,6 @@ use Rattle.visits.proofs.Carrying.{Down}
 use Rattle.visits.proofs.Meeting.{pow-double}
 use Rattle.visits.proofs.WordCubes.{words-length, words-at, before-first}
 
--- a number takes a digit above all that it has
 pub record DigitMore (m x : ℕ) (b : Bool) : Type 0 where
   pub under : x + 2 ^ m * bit b < 2 ^ suc m
   pub below : (j : ℕ) → j < m → digit j (x + 2 ^ m * bit b) ≡ digit j x

@@ -1,4 +1,8 @@
 -- Bytes and the places that open.
+--   free-right, fixed-right    the marks of the places of a byte that hold code 3, and of those that hold a value
+--   and-marks                  the AND of both marks the places that open
+--   first-here, first-later    the first place that opens: in these bytes, or in those after them
+--   byte-opens, byte-passed, bytes-ended    the search for it, byte by byte
 use Prim.Native.Nat.{ℕ, suc, _+_, _*_, _/_, _%_, _≤_, _<_}
 use native.Mathlib.Omega.{arith}
 use mathlib.Core.Path.{_≡_, refl, _∙_}

@@ -1,6 +1,8 @@
 -- The cuts that a piece meets, as a word.
 --   child-shares        a cut meets a child where it meets the piece and does not fix the position to another value
---   alive-child         so the digits of a child are those of the piece less those against it
+--   alive-child         the digits of a child are those of the piece less those against it
+--   pow-double          2 ^ suc m is twice 2 ^ m
+--   alive-top           the highest digit is that of one of the n cuts
 --   alive-fewer         the digits below the highest one are those of the cuts after that one
 --   alive-meets         the highest digit is that of a cut that the piece meets
 --   rows-met, rows-passed   the next cut meets the piece, or shares no header with it
@@ -96,7 +98,6 @@ alive-meets cuts n m p x a o u l =
     let e : x ≡ 2 ^ m + (x - 2 ^ m) = omega arith in
     bit-true (shares p (rowCube cuts m)) (sym (a .1 m l) ∙ rw e (digit-top m (x - 2 ^ m) (alive-fewer cuts n m p x a o u l .0)))
 
--- the top is one of the cuts
 pub alive-top : (n m x : ℕ) → x < 2 ^ n → 2 ^ m ≤ x → m < n
 alive-top n m x h o = ⊎-elim (λ l. l) (λ (l : n ≤ m). absurd (omega (arith, pow-mono l))) (below-or m n)
 
@@ -123,7 +124,6 @@ alive-passed cuts (suc n) m p x a h l =
     rows-passed cuts n p z ∙ alive-passed cuts n m p x (b, λ j d. a .1 j (omega arith)) h (omega arith))
     (λ (k : suc n ≤ m). let e : m ≡ suc n = omega arith in rw e) (below-or m (suc n))
 
--- no digit: the piece survives
 pub alive-none : (cuts : List (List ℕ)) (n : ℕ) (p : Cube) (x : ℕ) → Alive cuts n p x → x ≡ 0 → visit (cutsBelow cuts n) p ≡ record { pieces = 1; survivor = piece p }
 unfolding cutsBelow
 alive-none cuts n p x a e = alive-passed cuts n 0 p x a (omega arith) (omega arith) ∙ visit-none p

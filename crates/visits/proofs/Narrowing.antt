@@ -1,9 +1,11 @@
 -- One turn of a visit over words: the first position that the cut opens takes a value.
+--   Opens x y             == x is the number of the code `free`, and y that of a value
 --   Opened, opened        what is known of that position
---   took-cube, took-alive the piece with a value there, and the cuts that it meets
+--   took-cube, took-alive   the piece with a value there, and the cuts that it meets
 --   later-first           then the next position is a later one
 --   begun                 how the visit begins
 --   survives-stops        a piece that no cut meets ends the walk
+--   tells-covered         what a covered reply says
 use Prim.Native.Nat.{ℕ, zero, suc, _+_, _-_, _*_, _/_, _%_, _≤_, _<_}
 use native.Mathlib.Nat.{mod-lt}
 use native.Mathlib.Omega.{arith}
@@ -32,7 +34,6 @@ use Rattle.visits.proofs.Digits.{below-or}
 use Rattle.visits.proofs.Meeting.{alive-child, rows-met}
 use Rattle.cube.proofs.Codes.{below4}
 
--- the numbers of two codes of which one opens the other
 pub record Opens (x y : ℕ) : Type 0 where
   pub three : x ≡ 3
   pub least : 1 ≤ y

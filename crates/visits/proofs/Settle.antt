@@ -3,8 +3,9 @@
 --   settle-on               n pieces are paid for and nothing survived: the rest goes on with what is left
 --   settle-zero, settle-none   nothing is left to visit; no piece can be paid for
 --   said-on, said-stop      of two walks: the first is covered, and the second goes on; or the first is the answer
+--   said-allowance          what is said of a decided walk has the allowance that it left
 --   settle-keeps            what is left and what is spent make the same sum
---   decision-settle         on a fresh allowance it is the model's decision
+--   decision-settle         on a fresh allowance a walk is decided as the model decides it
 use Prim.Native.Nat.{ℕ, _+_, _-_, _≤_, _<_, zero-le}
 use native.Mathlib.Nat.{zero-add}
 use native.Mathlib.Omega.{arith}
@@ -93,7 +94,7 @@ settle-stop a v u e = next-by (λ w. settle a w ≡ settle a v) v u (λ q. ⊎-e
         let p : a .left < v .pieces + u .pieces = omega arith in
         rw (settle-lt a (joined (v .pieces) nothing u) p, settle-lt a v k)
 
--- the same, where d is what is said of the first walk
+-- two walks, where d is what is said of the first
 module _ (a : Allowance) (v u : Found) (d : Said) (e : d ≡ settle a v) where
   pub said-on : d .verdict ≡ Covered → settle a (next v u) ≡ settle (d .allowance) u
   said-on c = rw e (settle-covered a v u (rw e at c))

@@ -5,7 +5,11 @@
 --   remembers-right       a slot that is made of a walk in which nothing survives
 --   recalls-right         a slot is used
 --   memory-set, memory-fresh   a slot is written; empty slots
---   finds-covered         a walk that is paid for and covered
+--   met-turn              `&` of words, in place: one word more
+--   common-turn, common-end    what cuts have in common: one cut more, and no cut left
+--   Filled, filled-turn, slot-right    the words of a slot are filled in: so many, one more, all
+--   keeps-right           a slot is made, and kept
+--   look-turn             the words of a piece and of a slot are compared: one word more
 use Prim.Native.Nat.{ℕ, zero, suc, _+_, _-_, _/_, _%_, _^_, _≤_, _<_}
 use native.Mathlib.Nat.{mod-lt, div-eq-of-lt}
 use native.Mathlib.Omega.{arith}

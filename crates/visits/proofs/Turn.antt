@@ -1,4 +1,9 @@
 -- What a visit does, in plain terms: how it begins, and one turn of its loop over the positions that the cut opens.
+--   begin-sum         what is left and what is spent make the same sum
+--   begin-survives, begin-split    no cut meets the piece, or one does: what is left to visit
+--   turn-end          no position opens: the piece is covered
+--   turn-covered, turn-stop    the child is covered, and the loop goes on; or what it says is the answer
+--   is-covered, not-covered    what a `match` on the verdict tells
 use Prim.Native.Nat.{ℕ, suc, _+_, _≤_, _<_}
 use native.Mathlib.Omega.{arith}
 use mathlib.Core.Path.{_≡_, refl, sym, ap, _∙_}
@@ -57,7 +62,6 @@ module _ (f : Cube → Found) (cut near : Cube) (have : Allowance) (l : length n
     pub turn-stop : (v .verdict ≡ Covered → ⊥) → leftFrom f cut have near ≡ v
     turn-stop q = opened ∙ sym (said-stop have (f child) _ v r q)
 
--- what a `match` on the verdict tells
 pub is-covered : (k : Verdict) → OneOf (0 ∷ []) (tagOf the-type k) → k ≡ Covered
 is-covered Covered h = refl
 is-covered Survives h = let z : _≡_ {A = ℕ} 1 0 = h in absurd (omega arith)

@@ -1,9 +1,13 @@
 -- The walk over words is the walk over bytes.
+--   not-undecided     what a `match` on the verdict tells
 --   loaded-cuts       the rows are the cuts, with free places behind them
 --   loaded-alive      what the base meets of them
---   first-passed      a cut before the last 64
---   trimmed           a walk of cubes with free places behind them says what the walk says
---   enough            what a smaller allowance decided, the whole allowance decides
+--   first-met, first-passed    a cut before the last 64 that the base meets, or that is passed over
+--   whole             the walk over the rows is the walk over the bytes, with free places behind its cubes
+--   in-bytes-says     where a reply says that walk, its outcome in bytes says the walk without these places
+--   resumed-fits, resumed-says    what a smaller allowance decided, the whole allowance decides
+--   one-fits, last-fit    where cuts lie inside, the first does, and the last n do
+--   zeros             a list of zeros has 0 everywhere
 use Prim.Native.Nat.{ℕ, zero, suc, _+_, _-_, _*_, _≤_, _<_, min}
 use native.Mathlib.Nat.{suc-mul, add-mul, mul-le-mul-right}
 use native.Mathlib.Omega.{arith}
@@ -61,7 +65,7 @@ module _ (q : ℕ) (s : List ℕ) (at left : ℕ) (cuts : List (List ℕ)) (l : 
       let e : at + (left - suc k) * q + q ≡ at + (left - k) * q = rw (b, suc-mul (left - suc k) q) (omega arith) in
       rw (l k (omega arith), a, e, loaded-cuts k (omega arith))
 
-  -- of the last n
+  -- the rows of the last n cuts
   last-row : (n m : ℕ) → n ≤ left → m < n → at + (left - n) * q + (n - 1 - m) * q ≡ at + (left - 1 - m) * q
   last-row n m h k =
       let e : left - 1 - m ≡ left - n + (n - 1 - m) = omega arith in
@@ -117,7 +121,7 @@ module _ (q : ℕ) (s : List ℕ) (at left : ℕ) (cuts : List (List ℕ)) (l : 
         let y : at + 0 * q ≡ at = omega arith in
         sym (visit-pad (320 - 4 * q) (4 * q) (wholesAt q s at left) p (from-lengths q s at left inside) lp) ∙ rw (eP, loaded-cuts left (omega arith), z, y)
 
--- with its unused places taken off again
+-- a cube with its free places taken off again
 take-pad : (w u : ℕ) (p : Cube) → length p ≡ w → take w (pad u p) ≡ p
 take-pad zero u [] e = take-none (pad u [])
   where
@@ -184,14 +188,12 @@ module _ (q : ℕ) (a b : Allowance) (v : Found) (r : Outcome) (less : b .left �
       rw (settle-le a v p, x, t .verdict, t .piece)
       (ap (λ (d : Said). record { allowance = after a (v .pieces); verdict = d .verdict; piece = d .piece }) (e ∙ settle-le b v paid) ∙ with-allowance (after a (v .pieces)) (after b (v .pieces)) (v .survivor))
 
--- the first of the cuts lies inside
 pub one-fits : (at left q len : ℕ) → 0 < left → at + left * q ≤ len → at + q ≤ len
 one-fits at left q len h l =
     let e : left ≡ suc (left - 1) = omega arith in
     let m : left * q ≡ (left - 1) * q + q = ap (λ (n : ℕ). n * q) e ∙ suc-mul (left - 1) q in
     omega arith
 
--- the last n of them
 pub last-fit : (at left n q len : ℕ) → n ≤ left → at + left * q ≤ len → at + (left - n) * q + n * q ≤ len
 last-fit at left n q len h l =
     let e : left ≡ left - n + n = omega arith in

@@ -1,8 +1,9 @@
 -- Cubes in words.
---   words-length, words-at    the length of a cube in words, and its code at a position
+--   words-length, row-length, words-at    the length of a cube in words, of one in a row, and its code at a position
 --   words-ext                words that have the codes of a cube are that cube
 --   words-given              a free position takes a value
---   first-is                the first position that opens
+--   first-is, before-first   the first position that opens; no position before it does
+--   bit-zero                 a test whose number is 0 fails
 --   open-here, open-passed, open-ended   the search for it, word by word
 use Prim.Native.Nat.{ℕ, zero, suc, _+_, _-_, _*_, _/_, _%_, _^_, _≤_, _<_}
 use native.Mathlib.Nat.{div-eq-of-lt, mod-eq-of-lt, le-div-iff-mul-le, div-lt-iff-lt-mul}
@@ -89,7 +90,6 @@ first-is (x ∷ p) [] i e h o n = absurd (omega arith)
 first-is (x ∷ p) (y ∷ c) zero e h o n = rw o
 first-is (x ∷ p) (y ∷ c) (suc i) e h o n = rw (n 0 (omega arith)) (ap suc (first-is p c i (omega arith) (omega arith) o (λ j k. n (suc j) (omega arith))))
 
--- what stands before it does not open
 pub before-first : (p c : Cube) (j : ℕ) → length p ≡ length c → j < firstOpen p c → opens (getD p j none) (getD c j none) ≡ false
 unfolding firstOpen
 before-first [] c j e h = absurd (omega arith)

@@ -2,9 +2,9 @@
 --   padded q bs           == the first q bytes of bs and then bytes of free places, 80 in all
 --   HoldsBytes P j b x    == the word x holds the codes of the j bytes of P from byte b on
 --   rowOf q s at n m      == where cut n - 1 - m of the n cuts of q bytes stands: row m of their table, so that the last is row 0
---   Loaded q s at n cuts  == the rows of the table are those cuts, with free places behind their positions
---   Entered ..            == for each position and value, `one` was added where the value clashes with the cut
---   Met q s at n p x      == x has the digits of the cuts that p meets
+--   Loaded q s at n cuts k == the first k rows of the table are those cuts, with free places behind their positions
+--   Entered rows c one after == for each position and value, `one` was added where the value clashes with the cut c
+--   Met q s at n p k x    == x has the digits of the cuts that p meets, of the first k rows
 use Prim.Native.Nat.{ℕ, suc, _+_, _-_, _*_, _/_, _%_, _^_, _<_}
 use mathlib.Core.Path.{_≡_}
 use mathlib.Core.List.{List, _++_}

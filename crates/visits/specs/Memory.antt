@@ -4,11 +4,12 @@
 --   LikeSlot slot p     == the piece p is like the slot's
 --   Remembers cuts s    == the slot s is empty, or every piece that is like its own, with cuts left of which it meets the same, has a walk of the
 --                          same number of pieces in which nothing survives
---   Memory cuts slots   == so does each slot
+--   Memory cuts slots   == Remembers holds of each of the slots
 --   Recalls, Keeps      == a walk is looked up, a walk is remembered
 --   Lies ws c           == the cube in the words ws lies in the cube c
---   Common cuts x ws    == it lies in each of the cuts that x has a digit of
---   Slot                == the words of a slot
+--   Common cuts x ws    == the cube in the words ws lies in each of the cuts that x has a digit of
+--   Slot near m alive count s == s is the slot of a walk of `count` pieces, from the piece near, which meets the cuts
+--                          `alive`; m is what these have in common
 use Prim.Native.Nat.{ℕ, _+_, _<_}
 use mathlib.Core.Path.{_≡_}
 use mathlib.Core.List.{List, []}

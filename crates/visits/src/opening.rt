@@ -13,14 +13,14 @@ fn free_marks(x: u8) -> u8
     x & (x >> 1) & 0x55
 }
 
-// The same for each place that holds code 1 or 2.
+// A digit 1 of base 4 for each place of a byte that holds code 1 or 2.
 fn fixed_marks(y: u8) -> u8
     ensures { λ r. ⌜ r ≡ marks isFixed y ⌝ }
 {
     (y ^ (y >> 1)) & 0x55
 }
 
-// The same for each place where a cut's byte y opens a piece's byte x.
+// A digit 1 of base 4 for each place where a cut's byte y opens a piece's byte x.
 fn open_marks(x: u8, y: u8) -> u8
     ensures { λ r. ⌜ r ≡ openings x y ⌝ }
 {

@@ -77,8 +77,6 @@ abbrev given : ℕ → visit-lts.Claims
 given t = (spend-reads.Asked, spend-reads.Learnt, next-open-reads.Asked, next-open-reads.Learnt, number-in-reads.Asked, number-in-reads.Learnt, given-reads.Asked, given-reads.Learnt, narrow-reads.Asked, narrow-reads.Learnt, last-reads.Asked, last-reads.Learnt, slot-of-reads.Asked, slot-of-reads.Learnt, look-reads.Asked, look-reads.Learnt, pay-reads.Asked, pay-reads.Learnt, top-reads.Asked, top-reads.Learnt, after-top-reads.Asked, after-top-reads.Learnt, visit-below t, visit.Post, keep-reads.Asked, keep-reads.Learnt)
 
 -- the position that the cut opens next
-
--- the position that the cut opens next
 at-open : (t : ℕ) (c : visit-lts.After-number-in (given t) (visit-at t) visit.Post Inv μ) →
     let at = c .before .before .before in
     let g = at .before .before .before .before .before .before .before .before .before .args in
@@ -101,7 +99,7 @@ at-child t c =
     took-alive (at .loop .near) (at .loop .i) _ (gv .given .result) (at .loop .inv .3) (gv .before .before .before .loop-test .taken) (gv .given .ensures) (g .cuts .now) (g .n) (g .against .now) _ _
     (o .unfixed) (omega (arith, o .most)) (omega (arith, o .least)) (at .loop .inv .7) (at .loop .inv .8) (c .narrow .ensures)
 
--- the whole is what is left from here
+-- the whole visit is what is left of it in the loop
 whole : (t : ℕ) (c : visit-lts.At-loop (given t) (visit-at t) visit.Post Inv μ) →
     let g = c .before .before .before .before .before .before .before .before .before .args in
     settle (g .a) (walked (cutsBelow (g .cuts .now) (suc (g .n))) (cubeOfWords (g .piece)))
@@ -131,7 +129,7 @@ at-reply t c =
     rw (w .6, w .7) (w .4 .ensures .0 ∙ ap (settle (at .loop .have)) (sym (alive-passed _ _ _ _ _ a (k .1) l)), w .4 .ensures .1, omega (arith, w .5 .given, at .loop .inv .10)))
     (c .if3 .came)
 
--- it is covered: so many pieces
+-- the child is covered: so many pieces
 at-covered : (t : ℕ) (c : visit-lts.At-match-keys1 (given t) (visit-at t) visit.Post Inv μ) →
     let j = c .before in
     let gv = j .before .before .before .before .before .before .before in

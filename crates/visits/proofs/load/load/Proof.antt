@@ -1,4 +1,5 @@
--- `visits::load::load` meets its contract.
+-- `visits::load::load` meets its contract. The loop's invariant: the first w words hold their bytes, and the
+-- others are all free places.
 use Rattle.visits.proofs.Digits.{below-or}
 use lib.ListN.{getD-replicate}
 use mathlib.Core.Logic.{⊎-elim}

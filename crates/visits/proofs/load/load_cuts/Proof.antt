@@ -1,4 +1,4 @@
--- `visits::load::load_cuts` meets its contract.
+-- `visits::load::load_cuts` meets its contract. The loop's invariant: the last m cuts stand in the first m rows.
 use native.Mathlib.Nat.{sub-zero}
 use Rattle.visits.proofs.Carrying.{Down, down, row-more}
 use Rattle.visits.specs.Loading.{Loaded}

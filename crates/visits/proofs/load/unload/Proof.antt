@@ -1,4 +1,4 @@
--- `visits::load::unload` meets its contract.
+-- `visits::load::unload` meets its contract. The loop's invariant: the first b bytes are taken out.
 use Rattle.visits.proofs.Carrying.{byte-out, unloaded}
 use lib.Bits.{and-le-r}
 use lib.ListN.{length-set}

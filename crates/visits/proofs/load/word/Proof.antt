@@ -1,4 +1,4 @@
--- `visits::load::word` meets its contract.
+-- `visits::load::word` meets its contract. The loop's invariant: x holds the first j of the eight bytes.
 use lib.Pow.{pow-mono}
 use Rattle.visits.proofs.Carrying.{holds-none, holds-more}
 use Rattle.visits.specs.Loading.{padded, HoldsBytes}

@@ -38,7 +38,7 @@ base : (c : tie.After-load) →
 unfolding wholeAt
 base c = c .load .ensures
 
--- the cuts that it meets
+-- the cuts that the base meets
 alive : (c : tie.After-alive-of) →
     let dg = c .before .before .before .before .before .before .before in
     let g = dg .before .before .before .before .before .args in

@@ -1,4 +1,5 @@
--- `visits::memory::common` meets its contract.
+-- `visits::memory::common` meets its contract. The loop's invariant: m lies in each of the cuts `alive` that has no
+-- digit in x any more.
 use Rattle.visits.proofs.Meeting.{alive-top}
 use Rattle.visits.proofs.Slots.{common-turn, common-end}
 use Rattle.visits.specs.Memory.{Lies}

@@ -1,4 +1,5 @@
--- `visits::memory::look` meets its contract.
+-- `visits::memory::look` meets its contract. The loop's invariant: where `differ` is 0, the first w words of the
+-- piece are like the slot's.
 use Rattle.visits.proofs.Slots.{look-turn, recalls-right}
 use lib.Bits.{bitOr}
 use lib.ListN.{getD, length}

@@ -1,4 +1,4 @@
--- `visits::memory::meet` meets its contract.
+-- `visits::memory::meet` meets its contract. The loop's invariant: the first w words are met, the others as they were.
 use Rattle.visits.proofs.Slots.{met-turn}
 use lib.Bits.{bitAnd}
 use lib.ListN.{getD}

@@ -1,4 +1,4 @@
--- `visits::memory::slot` meets its contract.
+-- `visits::memory::slot` meets its contract. The loop's invariant: the first w words of both rows are filled in.
 use Rattle.visits.proofs.Slots.{Filled, filled-turn, slot-right}
 use mathlib.Core.Path.{_≡_, refl, subst}
 use native.Mathlib.Omega.{arith}

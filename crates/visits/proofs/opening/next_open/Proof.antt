@@ -1,4 +1,4 @@
--- `visits::opening::next_open` meets its contract.
+-- `visits::opening::next_open` meets its contract. The loop's invariant: no byte before b has a place that opens.
 use Prim.Native.Nat.{_*_, _-_, _≤_}
 use native.Mathlib.Omega.{arith}
 use mathlib.Core.Path.{_≡_, sym, _∙_}

@@ -1,4 +1,5 @@
--- `visits::table::alive_of` meets its contract.
+-- `visits::table::alive_of` meets its contract. The loop's invariant: x has the digits of those of the last m
+-- cuts that the piece meets.
 use Rattle.visits.proofs.Entering.{part-row, met-more}
 use Rattle.model.specs.Cube.{shares}
 use mathlib.Core.Bool.{true, false}

@@ -1,4 +1,5 @@
--- `visits::table::enter` meets its contract.
+-- `visits::table::enter` meets its contract. The loop's invariant: `near` has the cut's code at the positions passed
+-- and is free elsewhere, and the cut is entered at these positions.
 use Rattle.visits.proofs.Entering.{fresh, free-words, enter-fits, enter-turn, enter-end, agree-turn}
 use Rattle.visits.proofs.Narrowing.{Opened, opened, took-cube, later-first}
 use Rattle.visits.proofs.WordCubes.{words-length}

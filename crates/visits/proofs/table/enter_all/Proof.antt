@@ -1,4 +1,4 @@
--- `visits::table::enter_all` meets its contract.
+-- `visits::table::enter_all` meets its contract. The loop's invariant: the cuts of the first m rows are entered.
 use Rattle.visits.proofs.Entering.{EnteredAll, entered-none, entered-more}
 use Rattle.visits.proofs.Meeting.{pow-double}
 use Rattle.visits.specs.Alive.{Against}

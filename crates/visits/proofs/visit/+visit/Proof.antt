@@ -1,5 +1,6 @@
--- The proof of the cycle of calls {visits::visit::visit}. The measure is the number of cuts left. The invariant: the whole visit is what is left of it
--- with the allowance and the piece as they are, and i is the first position that the cut opens.
+-- `visits::visit::+visit` meets its contract, as its own cycle of calls. The measure is the number of cuts left. The
+-- loop's invariant: the whole visit is what is left of it with the allowance and the piece as they are, and i is the
+-- first position that the cut opens.
 use borrow.Author.Needs.{needs}
 use Prim.Native.Nat.{ℕ, _+_, _-_, _*_, _^_, _≤_, _<_, zero-le}
 use native.Mathlib.Nat.{pos-of-ne-zero}

@@ -1,4 +1,4 @@
--- `visits::visit::skip` meets its contract.
+-- `visits::visit::skip` meets its contract. The loop's invariant: the visit with the cuts left is that with all.
 use Prim.Native.Nat.{_+_, _-_, _*_, _≤_, _<_}
 use native.Mathlib.Omega.{arith}
 use mathlib.Core.Path.{_≡_, sym, _∙_}

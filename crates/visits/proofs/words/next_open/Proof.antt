@@ -1,4 +1,4 @@
--- `visits::words::next_open` meets its contract.
+-- `visits::words::next_open` meets its contract. The loop's invariant: no word before w has a place that opens.
 use Rattle.visits.proofs.WordCubes.{open-here, open-passed, open-ended}
 use Rattle.visits.specs.Words.{cubeOfWords}
 use Rattle.visits.specs.Opening.{firstOpen}
