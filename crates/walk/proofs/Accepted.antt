@@ -1,6 +1,6 @@
 -- The walk over the bytes of an accepted record is the model's walk of its difference, and what its outcome tells.
 --   record-walk, record-ceiling    the walk over the bytes, with the unused places behind each cube, and the ceiling
---   outcome-told         that is what is told of the walk, where the outcome is that of a fresh allowance
+--   outcome-told         of an outcome on a fresh allowance is told what is told of the walk
 use Prim.Native.Nat.{ℕ, _*_, _≤_}
 use mathlib.Core.Path.{_≡_, refl, ap, _∙_}
 use mathlib.Core.Bool.{Bool}

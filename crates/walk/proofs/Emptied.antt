@@ -1,7 +1,7 @@
 -- What the calls on emptiness tell, test by test.
 --   diff-room, diff-told             the call `diff_empty` of an accepted record: the room is too short; it is not
 --   region-room, region-told         the call `region_empty` of an accepted file
---   wholeWalk w r                    the walk of a region of w positions over whole bytes
+--   wholeWalk w r                    == the walk of a region of w positions over whole bytes
 --   file-begun, file-turn, file-stop, file-ended    the walk of an accepted file, difference by difference
 use Prim.Native.Nat.{ℕ, _≤_, _<_}
 use native.Mathlib.Omega.{arith}
@@ -57,7 +57,6 @@ module _ (w : ℕ) (s : List ℕ) (n room : ℕ) (r : Answer) (is : r ≡ outcom
       (e ∙ ap (settle (record { left = n; spent = 0 })) (record-walk a i))
       ∙ reached 1 k (h, tt) ∙ one-passed w s r is silent k z
 
--- the walk of a region over whole bytes
 abbrev pub wholeWalk : ℕ → Region → Found
 wholeWalk w r = padFound (unused w) (walkRegion r)
 

@@ -1,13 +1,13 @@
 -- Counting the positions that a cut fixes and the base leaves free, and the ceiling cut by cut from the last one on.
 --   count-append, count-most   the free positions of two cubes in a row; no more than there are positions
---   frees-count                they are those that are free in the base and not in the meet
+--   frees-count                what a cut fixes of the base's free positions is free in the base and not in the meet
 --   count-turn, met-turn       one byte more of the base, and of the meet
 --   frees-fewer, frees-left    what is left when all bytes are counted
 --   capped-raised              the cap may be taken at each cut
 --   ceiling-none, ceiling-apart, ceiling-met   the ceiling of no cut, and of one cut more in front
 --   back, back-turn            the cut before those counted, and the ceiling with it
 --   bound-begun, bound-ended   before the first cut and after the last
---   part-back-length, part-back, under   where that cut stands
+--   part-back-length, part-back, under   where the cut before those counted stands
 use Prim.Native.Nat.{ℕ, zero, suc, _+_, _-_, _*_, _≤_, _<_}
 use native.Mathlib.Nat.{mul-le-mul-left, zero-mul, suc-mul}
 use native.Mathlib.Omega.{arith}

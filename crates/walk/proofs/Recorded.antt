@@ -30,7 +30,6 @@ ceiling-told w s r e z i n h =
     ap (λ (m : ℕ). silent (counted 0 m)) (h ∙ ap capped (record-ceiling (record-of true w 0 s 0 (one-lent w s r e z .sound)) i))
     ∙ reached 0 k tt ∙ one-passed w s r e silent k z
 
--- what is copied is the cube
 pub loaded : (q : ℕ) (s : List ℕ) (at : ℕ) (r : List ℕ) → take q r ≡ take q (drop at s) → cubeOf q r ≡ wholeAt q s at
 unfolding cubeOf wholeAt
 loaded q s at r e = ap codes e

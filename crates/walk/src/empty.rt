@@ -68,7 +68,8 @@ fn walk_file(q: usize, s: &[u8], a: Allowance) -> Outcome
     }
 }
 
-// The same of a region file: yes exactly when no difference of it has a header.
+// Whether no header is in a region file: yes; no, and a header that is in is written over the front of out; or
+// undecided within the allowance.
 pub fn region_empty(s: &[u8], allowance: u32, out: &mut [u8]) -> Answer
     ensures answer { λ r. ⌜ r ≡ region-empty (now (s .entry)) allowance (length (now (out .entry))) .answer ⌝ }
     ensures bytes { λ _. ⌜ now (out .exit) ≡ over (now (out .entry)) (region-empty (now (s .entry)) allowance (length (now (out .entry))) .bytes) ⌝ }

@@ -1,5 +1,4 @@
 -- `walk::ceilings::bound` meets its contract. The loop's invariant: n is the capped ceiling of the cuts from `end` on.
---
 use Prim.Native.Nat.{_+_, _-_, _*_, _≤_, _<_}
 use native.Mathlib.Omega.{arith}
 use mathlib.Core.Path.{_≡_, refl}

@@ -1,5 +1,4 @@
 -- `walk::ceilings::opened_by` meets its contract. The loop's invariant: what is counted and what is still to count make the whole.
---
 use Prim.Native.Nat.{_+_, _-_, _*_, _≤_, _<_}
 use native.Mathlib.Omega.{arith}
 use mathlib.Core.Path.{_≡_}

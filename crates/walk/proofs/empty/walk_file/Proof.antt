@@ -1,4 +1,5 @@
--- `walk::empty::walk_file` meets its contract.
+-- `walk::empty::walk_file` meets its contract. The loop's invariant: the records from `at` on are accepted, and their
+-- walk, on what is left, comes to what the whole walk comes to.
 use Prim.Native.Nat.{_+_, _-_, _^_, _≤_, _<_}
 use native.Mathlib.Omega.{arith}
 use mathlib.Core.Path.{_≡_, sym, _∙_}

@@ -1,4 +1,5 @@
--- `walk::inclusion::walk_restored` meets its contract.
+-- `walk::inclusion::walk_restored` meets its contract. The loop's invariant: the walk of what the cuts left give
+-- back, on the allowance left, comes to what the whole walk comes to.
 use Prim.Native.Nat.{_+_, _-_, _*_, _^_, _≤_, _<_}
 use native.Mathlib.Omega.{arith}
 use mathlib.Core.Path.{_≡_, refl, sym, ap, _∙_}
