@@ -34,7 +34,7 @@ module _ (c : tie.After-front-len) where
       let whole = rw (record-len (2 * start .args .n) (cubeLen (start .args .w)) few short) at (start .pre .4) in
       omega (arith, rw (← c .before .cube-len .ensures) at whole, c .front-len .ensures)
 
--- the same seen from where the base ends
+-- the state there, seen from where the base ends
 abbrev starts : tie.After-slice-known3 → tie.After-front-len
 starts c = c .before .before .before .before .before .before .before .before
 
