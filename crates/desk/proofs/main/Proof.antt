@@ -1,5 +1,4 @@
 -- `desk::main` meets its contract. The buffers have their lengths by the law of a repeat: to count out so many zeros takes the checker too long.
---
 use Prim.Native.Nat.{ℕ}
 use mathlib.Core.Path.{sym}
 use lib.ListN.{length-replicate}

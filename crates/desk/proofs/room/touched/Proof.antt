@@ -1,4 +1,4 @@
--- `desk::room::touched` meets its contract.
+-- `desk::room::touched` meets its contract. Nothing is asked of the loop but that it ends.
 use Prim.Native.Nat.{_-_}
 use lib.ListN.{length}
 use borrow.Author.Needs.{needs}
