@@ -66,7 +66,7 @@ pub fn cube_fault(c: &[u8], w: usize) -> u8
 }
 
 // What is wrong with a lent cube, whose length may be wrong too: 12, 13, 14, or 0.
-pub fn lent_fault(c: &[u8], w: usize) -> u8
+pub(crate) fn lent_fault(c: &[u8], w: usize) -> u8
     ensures { λ r. ⌜ r ≡ lentFault w (now (c .entry)) ⌝ }
 {
     if c.len() != cube_len(w) {

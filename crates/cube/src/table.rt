@@ -532,7 +532,7 @@ pub fn free_places(b: u8) -> u8
 }
 
 // Whether a place of a byte holds code 0. This is the one test of it: nothing else knows the table.
-pub fn code_zero(b: u8) -> bool
+pub(crate) fn code_zero(b: u8) -> bool
     ensures { λ r. ⌜ r ≡ not (solid (codes (b ∷ []))) ⌝ }
 {
     CODE_ZERO[b as usize] == 1
