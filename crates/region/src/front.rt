@@ -10,8 +10,8 @@ use cube::least;
 // What the record at an offset says of itself: its length and its kind; and of a difference how many cuts it has, where its base starts and where it
 // ends.
 pub struct Front {
-    pub length: usize,
-    pub kind: usize,
+    pub(crate) length: usize,
+    pub(crate) kind: usize,
     pub cuts: usize,
     pub base: usize,
     pub next: usize,
