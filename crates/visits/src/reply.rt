@@ -8,10 +8,10 @@ use super::allowance::Allowance;
 use super::allowance::Verdict;
 
 // The piece is the one that survives, where one does.
-pub struct Reply {
-    pub allowance: Allowance,
-    pub verdict: Verdict,
-    pub piece: [u64; 10],
+pub(crate) struct Reply {
+    pub(crate) allowance: Allowance,
+    pub(crate) verdict: Verdict,
+    pub(crate) piece: [u64; 10],
 }
 
 // A walk of k pieces in which nothing survives is paid for, as far as the allowance goes.
