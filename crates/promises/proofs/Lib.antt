@@ -1,8 +1,6 @@
--- What is promised.
-pub mod Agreement
-pub mod Contracts
-pub mod Quiet
-pub mod Answering
-pub mod Handing
-pub mod Emptiness
+-- What is promised, on the page Promises, and what the families of calls under it share.
+pub mod Telling
+pub mod Keeping
+pub mod Agreeing
+pub mod Deciding
 pub mod Promises

@@ -1,13 +1,15 @@
 -- What a call may do, and that it may do one thing.
---   Promise n ps r Asked Learnt P == a contract takes anything, and what it permits has P. The prover writes each contract down as a caller has it: `Asked`
---                               is what a caller has to show of the arguments a, and `Learnt` what it learns of them, the result x and the arguments at
---                               exit e, in the order of the call's parameters
---   OneOutcome t old         == two outcomes that are Permitted have the same result, so the same number, operand, offset, count and bytes written, and
---                               the same buffer
+--   Promise ps r Asked Learnt P == a contract takes anything, and what it permits has P. The prover writes each contract down as a caller has it:
+--                               `Asked` is what a caller has to show of the arguments, and `Learnt` what it learns of them, the result and the
+--                               arguments at exit, in the order of the call's parameters
+--   Buffered tell old x new  == what a call that is lent the buffer `old` permits: `tell` is what it tells of the buffer's room, and the result x and
+--                               the buffer at exit, `new`, are Permitted by that
+--   OneOutcome t old         == two outcomes that are Permitted have the same result, so the same number, operand, offset, count and bytes written,
+--                               and the same buffer
 --   OneResult a              == the same of a contract that says only that the result is a
 --   SameStretch r r′         == the references r and r′ hand back the same bytes at the same place
---   Kept room x              == x is told by a call that was lent a buffer of that room: it writes nothing where it refuses, says yes or is undecided, and
---                               counts nothing where it refuses; what it writes is as long as its result says, and fits
+--   Kept room x              == x is told by a call that was lent a buffer of that room: it writes nothing where it refuses, says yes or is
+--                               undecided, and counts nothing where it refuses; what it writes is as long as its result says, and fits
 --   Unwritten r              == the result r is a refusal, yes or undecided
 use Prim.Native.Nat.{ℕ, _≤_}
 use mathlib.Core.Path.{_≡_}
@@ -22,9 +24,12 @@ use borrow.Fn.Kinds.{In, Out, Dens, resT, endedOf}
 use Rattle.answer.specs.declared.Answer.{Answer}
 use Rattle.format.specs.Told.{Told, Permitted}
 
-pub record Promise (n : ℕ) (ps : List (PK n)) (r : RK n) (Asked : In n ps) (Learnt P : Out n ps r) : Type 0 where
+pub record Promise {n : ℕ} (ps : List (PK n)) (r : RK n) (Asked : In n ps) (Learnt P : Out n ps r) : Type 0 where
   pub anything : (κs : Lfts n) (a : Dens κs ps) → Asked κs a
   pub permits : (κs : Lfts n) (a : Dens κs ps) (x : resT r κs .Denot) (e : AtExit (endedOf n ps r) κs) → Learnt κs a x e → P κs a x e
+
+abbrev pub Buffered : (ℕ → Told) → RefT (List ℕ) → Answer → RefT (List ℕ) → Type 0
+Buffered tell old x new = Permitted (tell (length (now old))) (now old) x (now new)
 
 abbrev pub OneOutcome : Told → List ℕ → Type 0
 OneOutcome t old = (r r′ : Answer) (new new′ : List ℕ) → Permitted t old r new → Permitted t old r′ new′ → (r ≡ r′) × (new ≡ new′)
