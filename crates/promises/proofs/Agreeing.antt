@@ -2,7 +2,7 @@
 --   agree            a call that is lent a buffer has one outcome
 --   same-result      so has a contract that says only what the result is
 use Prim.Native.Nat.{ℕ}
-use mathlib.Core.Path.{_≡_, sym, _∙_}
+use mathlib.Core.Path.{sym, _∙_}
 use mathlib.Core.List.{List}
 use Rattle.format.specs.Told.{Told}
 use Rattle.promises.specs.Outcome.{OneOutcome, OneResult}

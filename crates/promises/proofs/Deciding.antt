@@ -73,7 +73,7 @@ module _ (w n : ℕ) (In : Header → Bool) (v : Found) {Ok : Type 0} {x : Told}
         undecided = (λ e. let (o, unpaid, _) = late e in (o, unpaid), λ (o, unpaid). late-when o unpaid);
         yes-count = λ e. let (o, paid, _) = yes e in count-pieces o paid;
         no-count = λ e. let (o, paid, _) = no e in count-pieces o paid;
-        undecided-count = λ e. let (_, _, counted) = late e in counted;
+        undecided-count = λ e. let (_, _, all) = late e in all;
       }
 
 -- what is written

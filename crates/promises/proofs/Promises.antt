@@ -25,21 +25,23 @@ use Rattle.format.proofs.Heading.{bit-at}
 use Rattle.promises.specs.Outcome.{OneOutcome, Kept, Unwritten}
 use Rattle.promises.proofs.Agreeing.{agree}
 use Rattle.promises.proofs.Keeping.{none-written, written}
--- THE CALLS, family by family. Of each call `f` its family has
+--
+-- THE CALLS, family by family. Of each call f its family has
 --   f-met            the code meets its contract, ends, and does nothing undefined
 --   f-promise        its contract takes anything, and permits the outcomes of its definition and no other
 --   f-agrees         two permitted outcomes agree
 --   f-answered       it is answered exactly where what it was lent is accepted, and then tells this; elsewhere it refuses, by a number from 10 on
---   f-kept           it writes nothing where it refuses, says yes or is undecided
--- and what its answers mean (f-means, f-written, f-yes, f-no, f-decides, ..).
-pub mod Cubes
-pub mod Membership
-pub mod Regions
-pub mod Walks
-pub mod Fields
-pub mod Views
-pub mod ReadingOn
-pub mod Host
+--   f-kept           it writes nothing where it refuses, says yes or is undecided; what it writes fits, and is as long as its result says
+-- and what its answers mean. `wider`, `view` and reading on hand back a stretch or a place and write nothing: of them what is handed back, and where,
+-- stands in place of the last two.
+pub mod Cubes  -- cube_meet, cube_in, wider, wider_number
+pub mod Membership  -- diff_member, region_member
+pub mod Regions  -- region_tidy, diff_intersect, region_intersect, diff_less, region_less
+pub mod Walks  -- diff_empty, region_empty, diff_in, ceiling
+pub mod Fields  -- prefix, equal_fields
+pub mod Views  -- view, view_number
+pub mod ReadingOn  -- read_on, first_step, begin_reading, step_on
+pub mod Host  -- permit_member, permit_empty, and the question program
 pub use Cubes.*
 pub use Membership.*
 pub use Regions.*
@@ -48,6 +50,7 @@ pub use Fields.*
 pub use Views.*
 pub use ReadingOn.*
 pub use Host.*
+--
 -- THE MODEL. What document 01 claims of headers, cubes, differences and the walk, each claim once over the width: the set meaning of the meet and of lying
 -- in, of tidying, intersection, subtraction, prefix and equality;
 pub use Rattle.model.proofs.Cubes.{in-meet, shares-shown, apart-none, within-in, within-out}
@@ -62,6 +65,7 @@ pub use Rattle.model.proofs.Including.{inclusion-nothing, inclusion-survivor}
 pub use Rattle.model.proofs.Walking.{walk-positive}
 pub use Rattle.model.proofs.Bound.{pieces-at-most-ceiling}
 pub use Rattle.model.proofs.Allowed.{decided-when, undecided-when}
+--
 -- THE FIGURES. "Cases P1 to P10 are proved about the definitions, as one list under a single theorem"; and the trainees' slips 1, 2 and 5, each as the
 -- answer that it gets wrong.
 pub use Rattle.format.proofs.Figures.{figures}

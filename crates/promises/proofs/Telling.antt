@@ -49,8 +49,7 @@ yes-no b a = record { accepted = a .accepted; told = λ o. a .told o ∙ either 
 
 -- what is lent
 pub bits-tell : (n used : ℕ) (bs : List ℕ) (y : Told) → Tells (Bits n used bs) y (outcome (lentBits n used bs (last y)))
-bits-tell n used bs y =
-    by-table 2 _ (omega arith) (λ (long, (clear, _)). record { long = long; clear = clear }) (λ b. (b .long, (b .clear, tt)))
+bits-tell n used bs y = by-table 2 _ (omega arith) (λ passed. search) (λ b. search)
 
 pub lent-tells : (w : ℕ) (s : List ℕ) (y : Told) → Tells (Lent w s) y (outcome (wide w (lentRecord w s 1 (last y))))
 lent-tells w s y = by-table 3 _ (omega (arith, record-refusal w s true 0 0)) (omega arith) (omega arith)

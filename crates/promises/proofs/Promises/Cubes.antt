@@ -49,7 +49,7 @@ cubes-tell w a b y = by-table 4 _ (omega (arith, lent-refusal w a, lent-refusal 
 -- CUBE_MEET. "Two lent cubes that share a header meet in the cube written; if they share none the answer is 2 and nothing is written."
 pub cube-meet-promise : Promise cube-meet-call.Kinds.ps cube-meet-call.Kinds.r cube-meet-call.Reads.Asked cube-meet-call.Reads.Learnt
     (λ κs (w, (a, (b, (old, _)))) x (_, (_, (_, (new, _)))). Buffered (cube-meet w (now a) (now b)) old x new)
-cube-meet-promise = record { anything = λ κs a. tt; permits = λ κs a x e (answer, buffer). record { answer = answer; buffer = buffer } }
+cube-meet-promise = record { anything = λ κs a. tt; permits = λ κs a x e l. search }
 
 meet-size : {w : ℕ} {a b : List ℕ} → Cubes w a b → length (writeCube (meet (readCube w a) (readCube w b))) ≡ cubeLen w
 meet-size {w} {a} {b} c =

@@ -39,7 +39,7 @@ use Rattle.promises.proofs.Keeping.{kept}
 -- from the left; bits after m are zero, else 11."
 pub prefix-promise : Promise prefix-call.Kinds.ps prefix-call.Kinds.r prefix-call.Reads.Asked prefix-call.Reads.Learnt
     (λ κs (w, (s, (n, (m, (value, (old, _)))))) x (_, (_, (_, (_, (_, (new, _)))))). Buffered (prefix w s n m (now value)) old x new)
-prefix-promise = record { anything = λ κs a. tt; permits = λ κs a x e (answer, buffer). record { answer = answer; buffer = buffer } }
+prefix-promise = record { anything = λ κs a. tt; permits = λ κs a x e l. search }
 
 module _ (w s n m : ℕ) (value : List ℕ) where
   prefix-size : Prefixed w s n m value → length (writeCube (prefixCube w s m (bits value))) ≡ cubeLen w
@@ -53,21 +53,8 @@ module _ (w s n m : ℕ) (value : List ℕ) where
   unfolding prefix
   prefix-answered room =
       by-table 9 _ (omega arith)
-      (λ (some, (narrow, (field, (inside, (fixed, (short, (long, (clear, (fits, _))))))))).
-      let f : Prefixed w s n m value =
-      record {
-        some = omega arith;
-        narrow = narrow;
-        field = omega arith;
-        inside = inside;
-        fixed = omega arith;
-        short = short;
-        given = record { long = long; clear = clear };
-      } in
-      (f, omega (arith, prefix-size f)))
-      (λ (f, fits).
-      let size = prefix-size f in
-      (omega arith, (f .narrow, (omega arith, (f .inside, (omega arith, (f .short, (f .given .long, (f .given .clear, (omega arith, tt))))))))))
+      (λ passed. let f : Prefixed w s n m value = search arith in (f, omega (arith, prefix-size f)))
+      (λ (f, fits). let size = prefix-size f in search arith)
 
   pub prefix-kept : (room : ℕ) → Kept room (prefix w s n m value room)
   unfolding prefix
@@ -84,7 +71,7 @@ module _ (w s n m : ℕ) (value : List ℕ) where
 -- EQUAL_FIELDS. "Two starts and one n, bounded as above." .. "Different starts and n above 32 give 18." .. "One kind 2 record is written."
 pub equal-fields-promise : Promise equal-fields-call.Kinds.ps equal-fields-call.Kinds.r equal-fields-call.Reads.Asked equal-fields-call.Reads.Learnt
     (λ κs (w, (p, (q, (n, (old, _))))) x (_, (_, (_, (_, (new, _))))). Buffered (equal-fields w p q n) old x new)
-equal-fields-promise = record { anything = λ κs a. tt; permits = λ κs a x e (answer, buffer). record { answer = answer; buffer = buffer } }
+equal-fields-promise = record { anything = λ κs a. tt; permits = λ κs a x e l. search }
 
 module _ (w p q n : ℕ) where
   few-cuts : (length (equalFields w p q n .cuts) ≤ mostCuts) ↔ ((p ≡ q → ⊥) → n ≤ 32)
@@ -102,13 +89,7 @@ module _ (w p q n : ℕ) where
       → let bs = differenceBytes w (equalFields w p q n) in
       Tells (Fields w p q n × (length bs ≤ room)) (writes bs) (equal-fields w p q n room)
   unfolding equal-fields
-  equal-fields-answered room =
-      by-table 7 _ (omega arith)
-      (λ (some, (narrow, (field, (first, (second, (cuts, (fits, _))))))). (
-        record { some = omega arith; narrow = narrow; field = omega arith; first = first; second = second; few = few-cuts .0 cuts },
-        fits,
-      ))
-      (λ (f, fits). let cuts = few-cuts .1 (f .few) in omega arith)
+  equal-fields-answered room = by-table 7 _ (omega arith) (λ passed. search (arith, few-cuts .0)) (λ o. search (arith, few-cuts .1))
 
   pub equal-fields-kept : (room : ℕ) → Kept room (equal-fields w p q n room)
   unfolding equal-fields

@@ -31,7 +31,7 @@ permit-member-agrees = region-member-agrees
 
 pub permit-empty-promise : Promise permit-empty-call.Kinds.ps permit-empty-call.Kinds.r permit-empty-call.Reads.Asked permit-empty-call.Reads.Learnt
     (λ κs (s, (n, (old, _))) x (_, (_, (new, _))). Buffered (region-empty (now s) n) old x new)
-permit-empty-promise = record { anything = λ κs a. tt; permits = λ κs a x e (answer, buffer). record { answer = answer; buffer = buffer } }
+permit-empty-promise = record { anything = λ κs a. tt; permits = λ κs a x e l. search }
 
 pub permit-empty-agrees : (s : List ℕ) (n : ℕ) (old : List ℕ) → OneOutcome (region-empty s n (length old)) old
 permit-empty-agrees = region-empty-agrees

@@ -93,7 +93,8 @@ read-on-first = first-six
 -- Step after step: each difference of an accepted file once, in order, at its record's offset, and then 2 for ever; of a refused file the differences
 -- before the refused record, and then that refusal for ever. "Records are not counted, so 19 is not given": a file that is refused with 19 is read on
 -- past its 256th difference.
-pub accepted-steps : (s : List ℕ) {os : List ℕ} → readFile s ≡ whole os → (m : ℕ) → answers (length os + m) s 0 ≡ map placed os ++ replicate m (said 2)
+pub accepted-steps : (s : List ℕ) {os : List ℕ} → readFile s ≡ whole os → (m : ℕ)
+    → answers (length os + m) s 0 ≡ map placed os ++ replicate m (said 2)
 accepted-steps = Stepping.accepted-steps
 
 pub passed-steps : (s : List ℕ) {f at : ℕ} → readFile s ≡ refused f at → answers (length (recordsBefore s at)) s 0 ≡ map placed (recordsBefore s at)

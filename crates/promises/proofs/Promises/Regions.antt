@@ -44,13 +44,12 @@ use Rattle.promises.proofs.Keeping.{kept}
 
 -- a region is written exactly where it is within the limits and its file fits
 region-tells : (w : ℕ) (r : Region) (room : ℕ) → Tells (Writable w r room) (writes (fileBytes w r)) (outcome (writingRegion w r room))
-region-tells w r room =
-    by-table 3 _ (omega arith) (λ (cuts, (few, (fits, _))). record { cuts = cuts; few = few; fits = fits }) (λ f. (f .cuts, (f .few, (f .fits, tt))))
+region-tells w r room = by-table 3 _ (omega arith) (λ passed. search) (λ f. search)
 
 -- REGION_TIDY. "A region read and written again has the same headers, a tidy one the same bytes."
 pub region-tidy-promise : Promise region-tidy-call.Kinds.ps region-tidy-call.Kinds.r region-tidy-call.Reads.Asked region-tidy-call.Reads.Learnt
     (λ κs (s, (old, _)) x (_, (new, _)). Buffered (region-tidy (now s)) old x new)
-region-tidy-promise = record { anything = λ κs a. tt; permits = λ κs a x e (answer, buffer). record { answer = answer; buffer = buffer } }
+region-tidy-promise = record { anything = λ κs a. tt; permits = λ κs a x e l. search }
 
 module _ (s : List ℕ) where
   pub region-tidy-agrees : (old : List ℕ) → OneOutcome (region-tidy s (length old)) old
@@ -74,7 +73,8 @@ module _ (s : List ℕ) where
       → Written (widthOf s) (tidyRegion (regionIn s)) (region-tidy s room .bytes)
   region-tidy-written = Rewriting.region-tidy-written s
 
-  pub tidy-same-bytes : (room : ℕ) → Bytes s → Accepted s → tidyRegion (regionIn s) ≡ regionIn s → length s ≤ room → region-tidy s room ≡ writes s
+  pub tidy-same-bytes : (room : ℕ) → Bytes s → Accepted s → tidyRegion (regionIn s) ≡ regionIn s → length s ≤ room
+      → region-tidy s room ≡ writes s
   tidy-same-bytes = Rewriting.tidy-same s
 
   pub tidied-same-bytes : (room : ℕ) → region-tidy s room .answer .number ≡ 0 → (again : ℕ) → length (region-tidy s room .bytes) ≤ again
@@ -85,7 +85,7 @@ module _ (s : List ℕ) where
 pub diff-intersect-promise :
     Promise diff-intersect-call.Kinds.ps diff-intersect-call.Kinds.r diff-intersect-call.Reads.Asked diff-intersect-call.Reads.Learnt
     (λ κs (w, (s, (t, (old, _)))) x (_, (_, (_, (new, _)))). Buffered (diff-intersect w (now s) (now t)) old x new)
-diff-intersect-promise = record { anything = λ κs a. tt; permits = λ κs a x e (answer, buffer). record { answer = answer; buffer = buffer } }
+diff-intersect-promise = record { anything = λ κs a. tt; permits = λ κs a x e l. search }
 
 module _ (w : ℕ) (s t : List ℕ) where
   pub diff-intersect-agrees : (old : List ℕ) → OneOutcome (diff-intersect w s t (length old)) old
@@ -113,7 +113,7 @@ module _ (w : ℕ) (s t : List ℕ) where
 pub region-intersect-promise :
     Promise region-intersect-call.Kinds.ps region-intersect-call.Kinds.r region-intersect-call.Reads.Asked region-intersect-call.Reads.Learnt
     (λ κs (s, (t, (old, _))) x (_, (_, (new, _))). Buffered (region-intersect (now s) (now t)) old x new)
-region-intersect-promise = record { anything = λ κs a. tt; permits = λ κs a x e (answer, buffer). record { answer = answer; buffer = buffer } }
+region-intersect-promise = record { anything = λ κs a. tt; permits = λ κs a x e l. search }
 
 module _ (s t : List ℕ) where
   pub region-intersect-agrees : (old : List ℕ) → OneOutcome (region-intersect s t (length old)) old
@@ -124,10 +124,7 @@ module _ (s t : List ℕ) where
       let r = tidyRegion (intersections (regionIn s) (regionIn t)) in
       Tells (((Accepted s × Accepted t) × (w ≡ widthOf t)) × Writable w r room) (writes (fileBytes w r)) (region-intersect s t room)
   unfolding region-intersect
-  region-intersect-answered room =
-      by-table 6 _ (omega (arith, file-refusal s, file-refusal t))
-      (λ (first, (second, (same, (cuts, (few, (fits, _)))))). (((first, second), same), record { cuts = cuts; few = few; fits = fits }))
-      (λ (((first, second), same), f). (first, (second, (same, (f .cuts, (f .few, (f .fits, tt)))))))
+  region-intersect-answered room = by-table 6 _ (omega (arith, file-refusal s, file-refusal t)) (λ passed. search) (λ o. search)
 
   pub region-intersect-kept : (room : ℕ) → Kept room (region-intersect s t room)
   unfolding region-intersect
@@ -144,7 +141,7 @@ module _ (s t : List ℕ) where
 -- DIFF_LESS: the headers that are in the first and not in the second
 pub diff-less-promise : Promise diff-less-call.Kinds.ps diff-less-call.Kinds.r diff-less-call.Reads.Asked diff-less-call.Reads.Learnt
     (λ κs (w, (s, (t, (old, _)))) x (_, (_, (_, (new, _)))). Buffered (diff-less w (now s) (now t)) old x new)
-diff-less-promise = record { anything = λ κs a. tt; permits = λ κs a x e (answer, buffer). record { answer = answer; buffer = buffer } }
+diff-less-promise = record { anything = λ κs a. tt; permits = λ κs a x e l. search }
 
 module _ (w : ℕ) (s t : List ℕ) where
   pub diff-less-agrees : (old : List ℕ) → OneOutcome (diff-less w s t (length old)) old
@@ -171,7 +168,7 @@ module _ (w : ℕ) (s t : List ℕ) where
 -- REGION_LESS: the headers that are in the region and not in the difference. "Beside a region file all is of that file's W"
 pub region-less-promise : Promise region-less-call.Kinds.ps region-less-call.Kinds.r region-less-call.Reads.Asked region-less-call.Reads.Learnt
     (λ κs (s, (t, (old, _))) x (_, (_, (new, _))). Buffered (region-less (now s) (now t)) old x new)
-region-less-promise = record { anything = λ κs a. tt; permits = λ κs a x e (answer, buffer). record { answer = answer; buffer = buffer } }
+region-less-promise = record { anything = λ κs a. tt; permits = λ κs a x e l. search }
 
 module _ (s t : List ℕ) where
   pub region-less-agrees : (old : List ℕ) → OneOutcome (region-less s t (length old)) old

@@ -50,7 +50,7 @@ use Rattle.promises.proofs.Deciding.{pieces-at-most-ceilings, count-at-
 -- DIFF_EMPTY: whether no header is in a difference, or a header that is
 pub diff-empty-promise : Promise diff-empty-call.Kinds.ps diff-empty-call.Kinds.r diff-empty-call.Reads.Asked diff-empty-call.Reads.Learnt
     (λ κs (w, (s, (n, (old, _)))) x (_, (_, (_, (new, _)))). Buffered (diff-empty w (now s) n) old x new)
-diff-empty-promise = record { anything = λ κs a. tt; permits = λ κs a x e (answer, buffer). record { answer = answer; buffer = buffer } }
+diff-empty-promise = record { anything = λ κs a. tt; permits = λ κs a x e l. search }
 
 module _ (w : ℕ) (s : List ℕ) (n : ℕ) where
   pub diff-empty-agrees : (old : List ℕ) → OneOutcome (diff-empty w s n (length old)) old
@@ -86,7 +86,7 @@ module _ (w : ℕ) (s : List ℕ) where
 -- REGION_EMPTY: the same of a region
 pub region-empty-promise : Promise region-empty-call.Kinds.ps region-empty-call.Kinds.r region-empty-call.Reads.Asked region-empty-call.Reads.Learnt
     (λ κs (s, (n, (old, _))) x (_, (_, (new, _))). Buffered (region-empty (now s) n) old x new)
-region-empty-promise = record { anything = λ κs a. tt; permits = λ κs a x e (answer, buffer). record { answer = answer; buffer = buffer } }
+region-empty-promise = record { anything = λ κs a. tt; permits = λ κs a x e l. search }
 
 module _ (s : List ℕ) (n : ℕ) where
   pub region-empty-agrees : (old : List ℕ) → OneOutcome (region-empty s n (length old)) old
@@ -121,7 +121,7 @@ module _ (s : List ℕ) (n : ℕ) where
 -- DIFF_IN. "yes is inclusion, no shows a header in A and outside B"
 pub diff-in-promise : Promise diff-in-call.Kinds.ps diff-in-call.Kinds.r diff-in-call.Reads.Asked diff-in-call.Reads.Learnt
     (λ κs (w, (s, (t, (n, (old, _))))) x (_, (_, (_, (_, (new, _))))). Buffered (diff-in w (now s) (now t) n) old x new)
-diff-in-promise = record { anything = λ κs a. tt; permits = λ κs a x e (answer, buffer). record { answer = answer; buffer = buffer } }
+diff-in-promise = record { anything = λ κs a. tt; permits = λ κs a x e l. search }
 
 module _ (w : ℕ) (s t : List ℕ) (n : ℕ) where
   pub diff-in-agrees : (old : List ℕ) → OneOutcome (diff-in w s t n (length old)) old
@@ -143,7 +143,7 @@ module _ (w : ℕ) (s t : List ℕ) (n : ℕ) where
       (λ e. let ((first, second, fits), paid, within) = in-yes w s t n room e in (((first, second), fits), paid, λ h. none-less _ _ (within h)))
       (λ ((first, second), fits) paid none. in-yes-when w s t n room (first, second, fits) paid (λ h l. less-none _ _ (none h l)))
       (λ e. let ((first, second, fits), paid, shown) = in-no w s t n room e in (((first, second), fits), paid, shown))
-      (λ e. let ((first, second, fits), unpaid, counted) = in-undecided w s t n room e in (((first, second), fits), unpaid, counted))
+      (λ e. let ((first, second, fits), unpaid, count) = in-undecided w s t n room e in (((first, second), fits), unpaid, count))
       (λ ((first, second), fits). in-undecided-when w s t n room (first, second, fits))
       (λ ((first, second), fits). in-count w s t n room (first, second, fits))
 
