@@ -38,7 +38,7 @@ pub use Rattle.cube.proofs.wider.Met.{met as wider-met}
 pub use Rattle.cube.proofs.wider_number.Met.{met as wider-number-met}
 use Rattle.promises.specs.Outcome.{Promise, Buffered, OneOutcome, OneResult, SameStretch, Kept}
 use Rattle.promises.specs.Accepted.{Tells, yesNo, writes, Cubes}
-use Rattle.promises.proofs.Agreeing.{agree, same-result}
+use Rattle.promises.proofs.Agreeing.{permitted, agree, same-result}
 use Rattle.promises.proofs.Telling.{by-table, and-then, yes-no, writing-tells, cube-size}
 use Rattle.promises.proofs.Keeping.{kept}
 
@@ -49,7 +49,7 @@ cubes-tell w a b y = by-table 4 _ (omega (arith, lent-refusal w a, lent-refusal 
 -- CUBE_MEET. "Two lent cubes that share a header meet in the cube written; if they share none the answer is 2 and nothing is written."
 pub cube-meet-promise : Promise cube-meet-call.Kinds.ps cube-meet-call.Kinds.r cube-meet-call.Reads.Asked cube-meet-call.Reads.Learnt
     (λ κs (w, (a, (b, (old, _)))) x (_, (_, (_, (new, _)))). Buffered (cube-meet w (now a) (now b)) old x new)
-cube-meet-promise = record { anything = λ κs a. tt; permits = λ κs a x e l. search }
+cube-meet-promise = record { anything = λ κs a. tt; permits = λ κs a x e. permitted }
 
 meet-size : {w : ℕ} {a b : List ℕ} → Cubes w a b → length (writeCube (meet (readCube w a) (readCube w b))) ≡ cubeLen w
 meet-size {w} {a} {b} c =

@@ -31,7 +31,7 @@ pub use Rattle.fields.proofs.prefix.Met.{met as prefix-met}
 pub use Rattle.fields.proofs.equal_fields.Met.{met as equal-fields-met}
 use Rattle.promises.specs.Outcome.{Promise, Buffered, OneOutcome, Kept}
 use Rattle.promises.specs.Accepted.{Tells, writes, Prefixed, Fields}
-use Rattle.promises.proofs.Agreeing.{agree}
+use Rattle.promises.proofs.Agreeing.{permitted, agree}
 use Rattle.promises.proofs.Telling.{by-table, cube-size}
 use Rattle.promises.proofs.Keeping.{kept}
 
@@ -39,7 +39,7 @@ use Rattle.promises.proofs.Keeping.{kept}
 -- from the left; bits after m are zero, else 11."
 pub prefix-promise : Promise prefix-call.Kinds.ps prefix-call.Kinds.r prefix-call.Reads.Asked prefix-call.Reads.Learnt
     (λ κs (w, (s, (n, (m, (value, (old, _)))))) x (_, (_, (_, (_, (_, (new, _)))))). Buffered (prefix w s n m (now value)) old x new)
-prefix-promise = record { anything = λ κs a. tt; permits = λ κs a x e l. search }
+prefix-promise = record { anything = λ κs a. tt; permits = λ κs a x e. permitted }
 
 module _ (w s n m : ℕ) (value : List ℕ) where
   prefix-size : Prefixed w s n m value → length (writeCube (prefixCube w s m (bits value))) ≡ cubeLen w
@@ -71,7 +71,7 @@ module _ (w s n m : ℕ) (value : List ℕ) where
 -- EQUAL_FIELDS. "Two starts and one n, bounded as above." .. "Different starts and n above 32 give 18." .. "One kind 2 record is written."
 pub equal-fields-promise : Promise equal-fields-call.Kinds.ps equal-fields-call.Kinds.r equal-fields-call.Reads.Asked equal-fields-call.Reads.Learnt
     (λ κs (w, (p, (q, (n, (old, _))))) x (_, (_, (_, (_, (new, _))))). Buffered (equal-fields w p q n) old x new)
-equal-fields-promise = record { anything = λ κs a. tt; permits = λ κs a x e l. search }
+equal-fields-promise = record { anything = λ κs a. tt; permits = λ κs a x e. permitted }
 
 module _ (w p q n : ℕ) where
   few-cuts : (length (equalFields w p q n .cuts) ≤ mostCuts) ↔ ((p ≡ q → ⊥) → n ≤ 32)

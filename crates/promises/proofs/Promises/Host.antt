@@ -17,6 +17,7 @@ use Rattle.broker.proofs.permit_empty as permit-empty-call
 pub use Rattle.broker.proofs.permit_member.Met.{met as permit-member-met}
 pub use Rattle.broker.proofs.permit_empty.Met.{met as permit-empty-met}
 use Rattle.promises.specs.Outcome.{Promise, Buffered, OneOutcome, OneResult, Kept}
+use Rattle.promises.proofs.Agreeing.{permitted}
 use Rattle.promises.proofs.Keeping.{kept}
 use Rattle.promises.proofs.Promises.Membership.{region-member-agrees}
 use Rattle.promises.proofs.Promises.Walks.{region-empty-agrees, region-empty-kept}
@@ -31,7 +32,7 @@ permit-member-agrees = region-member-agrees
 
 pub permit-empty-promise : Promise permit-empty-call.Kinds.ps permit-empty-call.Kinds.r permit-empty-call.Reads.Asked permit-empty-call.Reads.Learnt
     (λ κs (s, (n, (old, _))) x (_, (_, (new, _))). Buffered (region-empty (now s) n) old x new)
-permit-empty-promise = record { anything = λ κs a. tt; permits = λ κs a x e l. search }
+permit-empty-promise = record { anything = λ κs a. tt; permits = λ κs a x e. permitted }
 
 pub permit-empty-agrees : (s : List ℕ) (n : ℕ) (old : List ℕ) → OneOutcome (region-empty s n (length old)) old
 permit-empty-agrees = region-empty-agrees

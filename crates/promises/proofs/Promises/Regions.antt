@@ -38,7 +38,7 @@ pub use Rattle.algebra.proofs.diff_less.Met.{met as diff-less-met}
 pub use Rattle.algebra.proofs.region_less.Met.{met as region-less-met}
 use Rattle.promises.specs.Outcome.{Promise, Buffered, OneOutcome, Kept}
 use Rattle.promises.specs.Accepted.{Tells, writes, Accepted, Writable}
-use Rattle.promises.proofs.Agreeing.{agree}
+use Rattle.promises.proofs.Agreeing.{permitted, agree}
 use Rattle.promises.proofs.Telling.{by-table, and-then, second-tells, two-tell, file-tells}
 use Rattle.promises.proofs.Keeping.{kept}
 
@@ -49,7 +49,7 @@ region-tells w r room = by-table 3 _ (omega arith) (λ passed. search) (λ f. se
 -- REGION_TIDY. "A region read and written again has the same headers, a tidy one the same bytes."
 pub region-tidy-promise : Promise region-tidy-call.Kinds.ps region-tidy-call.Kinds.r region-tidy-call.Reads.Asked region-tidy-call.Reads.Learnt
     (λ κs (s, (old, _)) x (_, (new, _)). Buffered (region-tidy (now s)) old x new)
-region-tidy-promise = record { anything = λ κs a. tt; permits = λ κs a x e l. search }
+region-tidy-promise = record { anything = λ κs a. tt; permits = λ κs a x e. permitted }
 
 module _ (s : List ℕ) where
   pub region-tidy-agrees : (old : List ℕ) → OneOutcome (region-tidy s (length old)) old
@@ -85,7 +85,7 @@ module _ (s : List ℕ) where
 pub diff-intersect-promise :
     Promise diff-intersect-call.Kinds.ps diff-intersect-call.Kinds.r diff-intersect-call.Reads.Asked diff-intersect-call.Reads.Learnt
     (λ κs (w, (s, (t, (old, _)))) x (_, (_, (_, (new, _)))). Buffered (diff-intersect w (now s) (now t)) old x new)
-diff-intersect-promise = record { anything = λ κs a. tt; permits = λ κs a x e l. search }
+diff-intersect-promise = record { anything = λ κs a. tt; permits = λ κs a x e. permitted }
 
 module _ (w : ℕ) (s t : List ℕ) where
   pub diff-intersect-agrees : (old : List ℕ) → OneOutcome (diff-intersect w s t (length old)) old
@@ -113,7 +113,7 @@ module _ (w : ℕ) (s t : List ℕ) where
 pub region-intersect-promise :
     Promise region-intersect-call.Kinds.ps region-intersect-call.Kinds.r region-intersect-call.Reads.Asked region-intersect-call.Reads.Learnt
     (λ κs (s, (t, (old, _))) x (_, (_, (new, _))). Buffered (region-intersect (now s) (now t)) old x new)
-region-intersect-promise = record { anything = λ κs a. tt; permits = λ κs a x e l. search }
+region-intersect-promise = record { anything = λ κs a. tt; permits = λ κs a x e. permitted }
 
 module _ (s t : List ℕ) where
   pub region-intersect-agrees : (old : List ℕ) → OneOutcome (region-intersect s t (length old)) old
@@ -141,7 +141,7 @@ module _ (s t : List ℕ) where
 -- DIFF_LESS: the headers that are in the first and not in the second
 pub diff-less-promise : Promise diff-less-call.Kinds.ps diff-less-call.Kinds.r diff-less-call.Reads.Asked diff-less-call.Reads.Learnt
     (λ κs (w, (s, (t, (old, _)))) x (_, (_, (_, (new, _)))). Buffered (diff-less w (now s) (now t)) old x new)
-diff-less-promise = record { anything = λ κs a. tt; permits = λ κs a x e l. search }
+diff-less-promise = record { anything = λ κs a. tt; permits = λ κs a x e. permitted }
 
 module _ (w : ℕ) (s t : List ℕ) where
   pub diff-less-agrees : (old : List ℕ) → OneOutcome (diff-less w s t (length old)) old
@@ -168,7 +168,7 @@ module _ (w : ℕ) (s t : List ℕ) where
 -- REGION_LESS: the headers that are in the region and not in the difference. "Beside a region file all is of that file's W"
 pub region-less-promise : Promise region-less-call.Kinds.ps region-less-call.Kinds.r region-less-call.Reads.Asked region-less-call.Reads.Learnt
     (λ κs (s, (t, (old, _))) x (_, (_, (new, _))). Buffered (region-less (now s) (now t)) old x new)
-region-less-promise = record { anything = λ κs a. tt; permits = λ κs a x e l. search }
+region-less-promise = record { anything = λ κs a. tt; permits = λ κs a x e. permitted }
 
 module _ (s t : List ℕ) where
   pub region-less-agrees : (old : List ℕ) → OneOutcome (region-less s t (length old)) old

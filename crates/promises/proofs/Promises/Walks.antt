@@ -41,7 +41,7 @@ pub use Rattle.walk.proofs.ceiling.Met.{met as ceiling-met}
 use Rattle.promises.specs.Outcome.{Promise, Buffered, OneOutcome, OneResult, Kept}
 use Rattle.promises.specs.Accepted.{Tells, Accepted}
 use Rattle.promises.specs.Decides.{Decides, ceilings}
-use Rattle.promises.proofs.Agreeing.{agree, same-result}
+use Rattle.promises.proofs.Agreeing.{permitted, agree, same-result}
 use Rattle.promises.proofs.Telling.{and-then, lent-tells, two-tell, file-tells}
 use Rattle.promises.proofs.Keeping.{kept}
 use Rattle.promises.proofs.Deciding.{walking-tells, decides, deciding-shows, walk-kept}
@@ -50,7 +50,7 @@ use Rattle.promises.proofs.Deciding.{pieces-at-most-ceilings, count-at-
 -- DIFF_EMPTY: whether no header is in a difference, or a header that is
 pub diff-empty-promise : Promise diff-empty-call.Kinds.ps diff-empty-call.Kinds.r diff-empty-call.Reads.Asked diff-empty-call.Reads.Learnt
     (λ κs (w, (s, (n, (old, _)))) x (_, (_, (_, (new, _)))). Buffered (diff-empty w (now s) n) old x new)
-diff-empty-promise = record { anything = λ κs a. tt; permits = λ κs a x e l. search }
+diff-empty-promise = record { anything = λ κs a. tt; permits = λ κs a x e. permitted }
 
 module _ (w : ℕ) (s : List ℕ) (n : ℕ) where
   pub diff-empty-agrees : (old : List ℕ) → OneOutcome (diff-empty w s n (length old)) old
@@ -86,7 +86,7 @@ module _ (w : ℕ) (s : List ℕ) where
 -- REGION_EMPTY: the same of a region
 pub region-empty-promise : Promise region-empty-call.Kinds.ps region-empty-call.Kinds.r region-empty-call.Reads.Asked region-empty-call.Reads.Learnt
     (λ κs (s, (n, (old, _))) x (_, (_, (new, _))). Buffered (region-empty (now s) n) old x new)
-region-empty-promise = record { anything = λ κs a. tt; permits = λ κs a x e l. search }
+region-empty-promise = record { anything = λ κs a. tt; permits = λ κs a x e. permitted }
 
 module _ (s : List ℕ) (n : ℕ) where
   pub region-empty-agrees : (old : List ℕ) → OneOutcome (region-empty s n (length old)) old
@@ -121,7 +121,7 @@ module _ (s : List ℕ) (n : ℕ) where
 -- DIFF_IN. "yes is inclusion, no shows a header in A and outside B"
 pub diff-in-promise : Promise diff-in-call.Kinds.ps diff-in-call.Kinds.r diff-in-call.Reads.Asked diff-in-call.Reads.Learnt
     (λ κs (w, (s, (t, (n, (old, _))))) x (_, (_, (_, (_, (new, _))))). Buffered (diff-in w (now s) (now t) n) old x new)
-diff-in-promise = record { anything = λ κs a. tt; permits = λ κs a x e l. search }
+diff-in-promise = record { anything = λ κs a. tt; permits = λ κs a x e. permitted }
 
 module _ (w : ℕ) (s t : List ℕ) (n : ℕ) where
   pub diff-in-agrees : (old : List ℕ) → OneOutcome (diff-in w s t n (length old)) old
