@@ -3,10 +3,9 @@
 --   by-table         a table whose every row refuses tells its last line exactly where every test fails
 --   and-then         where one table tells what another does, it tells where both are accepted
 --   yes-no           a table that ends in yes or no tells `yesNo`
---   bits-tell        the tests of a header or a field's value pass exactly where they are `Bits`
---   lent-tells, second-tells, two-tell    so do those of a width and a record, of a second record, of a width and two records
+--   lent-tells, second-tells, two-tell    the tests of a width and a record, of a second record, of a width and two records pass exactly where those
+--                    are accepted
 --   file-tells       so do those of a region file
---   writing-tells    bytes are written exactly where they fit
 --   cube-size        a cube of w positions is written in as many bytes as w says
 use Prim.Native.Nat.{ℕ, _≤_, _<_}
 use native.Mathlib.Omega.{arith}
@@ -18,12 +17,12 @@ use Rattle.model.specs.Cube.{Cube}
 use Rattle.format.specs.Rows.{Rows, last, outcome, passes, Reaches, nth}
 use Rattle.format.specs.Limits.{widest}
 use Rattle.format.specs.Bytes.{cubeLen, writeCube}
-use Rattle.format.specs.Told.{Told, wide, lentRecord, lentFile, lentBits, yesOr, writing}
+use Rattle.format.specs.Told.{Told, wide, lentRecord, lentFile, yesOr}
 use Rattle.format.specs.Meaning.{Lent}
 use Rattle.format.proofs.Reached.{reached, Past, Refuses, past}
 use Rattle.format.proofs.Refusals.{record-refusal, file-refusal}
 use Rattle.format.proofs.Coding.{write-length}
-use Rattle.promises.specs.Accepted.{Tells, yesNo, writes, Bits, Accepted}
+use Rattle.promises.specs.Accepted.{Tells, yesNo, Accepted}
 
 abbrev pub answered : Told → Type 0
 answered x = x .answer .number < 10
@@ -48,9 +47,6 @@ yes-no b a = record { accepted = a .accepted; told = λ o. a .told o ∙ either 
     either false = refl
 
 -- what is lent
-pub bits-tell : (n used : ℕ) (bs : List ℕ) (y : Told) → Tells (Bits n used bs) y (outcome (lentBits n used bs (last y)))
-bits-tell n used bs y = by-table 2 _ (omega arith) (λ passed. search) (λ b. search)
-
 pub lent-tells : (w : ℕ) (s : List ℕ) (y : Told) → Tells (Lent w s) y (outcome (wide w (lentRecord w s 1 (last y))))
 lent-tells w s y = by-table 3 _ (omega (arith, record-refusal w s true 0 0)) (omega arith) (omega arith)
 
@@ -66,8 +62,5 @@ pub file-tells : (s : List ℕ) (operand : ℕ) (y : Told) → Tells (Accepted s
 file-tells s operand y = by-table 1 _ (omega (arith, file-refusal s)) (omega arith) (omega arith)
 
 -- what is written
-pub writing-tells : (bs : List ℕ) {size : ℕ} → length bs ≡ size → (room : ℕ) → Tells (size ≤ room) (writes bs) (outcome (writing bs room))
-writing-tells bs e room = by-table 1 _ (omega arith) (omega arith) (omega arith)
-
 pub cube-size : (w : ℕ) (c : Cube) → length c ≡ w → length (writeCube c) ≡ cubeLen w
 cube-size w c e = write-length (cubeLen (length c)) c ∙ ap cubeLen e

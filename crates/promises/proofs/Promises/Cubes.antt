@@ -39,7 +39,7 @@ pub use Rattle.cube.proofs.wider_number.Met.{met as wider-number-met}
 use Rattle.promises.specs.Outcome.{Promise, Buffered, OneOutcome, OneResult, SameStretch, Kept}
 use Rattle.promises.specs.Accepted.{Tells, yesNo, writes, Cubes}
 use Rattle.promises.proofs.Agreeing.{permitted, agree, same-result}
-use Rattle.promises.proofs.Telling.{by-table, and-then, yes-no, writing-tells, cube-size}
+use Rattle.promises.proofs.Telling.{by-table, and-then, yes-no, cube-size}
 use Rattle.promises.proofs.Keeping.{kept}
 
 -- the tests of two lent cubes pass exactly where both are accepted
@@ -57,6 +57,11 @@ meet-size {w} {a} {b} c =
     let n = read-length w b (lent-length w b (c .second)) in
     cube-size w (meet (readCube w a) (readCube w b)) (length-meet (readCube w a) (readCube w b) (m ∙ sym n) ∙ m)
 
+-- bytes are written exactly where they fit
+writing-tells : (bs : List ℕ) {size : ℕ} → length bs ≡ size → (room : ℕ) → Tells (size ≤ room) (writes bs) (outcome (writing bs room))
+writing-tells bs e room = by-table 1 _ (omega arith) (omega arith) (omega arith)
+
+-- where the cubes share a header
 meeting-tells : (t : Bool) (bs : List ℕ) {size : ℕ} → length bs ≡ size → (room : ℕ)
     → Tells (t ≡ true → size ≤ room) (cond t (writes bs) (silent (said 2))) (outcome (row (so (not t)) (silent (said 2)) (writing bs room)))
 unfolding outcome passes

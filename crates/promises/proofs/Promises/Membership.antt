@@ -8,10 +8,11 @@ use mathlib.Core.List.{List}
 use mathlib.Core.Bool.{true, false}
 use denote.Ref.{now}
 use Rattle.model.specs.Difference.{inDifference, inRegion}
-use Rattle.format.specs.Rows.{outcome}
+use Rattle.format.specs.Rows.{last, outcome}
 use Rattle.format.specs.Bytes.{readHeader}
 use Rattle.format.specs.Records.{widthOf, differenceAt}
 use Rattle.format.specs.Files.{regionIn}
+use Rattle.format.specs.Told.{Told, lentHeader}
 use Rattle.format.specs.Calls.{diff-member, region-member}
 use Rattle.format.specs.Meaning.{Lent}
 use Rattle.format.proofs.Belonging
@@ -22,8 +23,12 @@ pub use Rattle.region.proofs.region_member.Met.{met as region-member-met}
 use Rattle.promises.specs.Outcome.{Promise, OneResult, Kept}
 use Rattle.promises.specs.Accepted.{Tells, yesNo, Bits, Accepted}
 use Rattle.promises.proofs.Agreeing.{same-result}
-use Rattle.promises.proofs.Telling.{and-then, yes-no, bits-tell, lent-tells, file-tells}
+use Rattle.promises.proofs.Telling.{by-table, and-then, yes-no, lent-tells, file-tells}
 use Rattle.promises.proofs.Keeping.{kept}
+
+-- the tests of a header pass exactly where its bytes are accepted
+header-tells : (w : ℕ) (h : List ℕ) (y : Told) → Tells (Bits w w h) y (outcome (lentHeader w h (last y)))
+header-tells w h y = by-table 2 _ (omega arith) (λ passed. search) (λ b. search)
 
 -- DIFF_MEMBER
 pub diff-member-promise : Promise diff-member-call.Kinds.ps diff-member-call.Kinds.r diff-member-call.Reads.Asked diff-member-call.Reads.Learnt
@@ -36,7 +41,7 @@ module _ (w : ℕ) (s h : List ℕ) where
 
   pub diff-member-answered : Tells (Lent w s × Bits w w h) (yesNo (inDifference (differenceAt w s 0) (readHeader w h))) (diff-member w s h)
   unfolding diff-member outcome
-  diff-member-answered = yes-no _ (and-then (lent-tells w s _) (λ l. bits-tell w w h _))
+  diff-member-answered = yes-no _ (and-then (lent-tells w s _) (λ l. header-tells w h _))
 
   pub diff-member-kept : Kept 0 (diff-member w s h)
   unfolding diff-member
@@ -61,7 +66,7 @@ module _ (s h : List ℕ) where
       let w = widthOf s in
       Tells (Accepted s × Bits w w h) (yesNo (inRegion (regionIn s) (readHeader w h))) (region-member s h)
   unfolding region-member outcome
-  region-member-answered = yes-no _ (and-then (file-tells s 1 _) (λ l. bits-tell (widthOf s) (widthOf s) h _))
+  region-member-answered = yes-no _ (and-then (file-tells s 1 _) (λ l. header-tells (widthOf s) h _))
 
   pub region-member-kept : Kept 0 (region-member s h)
   unfolding region-member
