@@ -10,7 +10,7 @@ use mathlib.Core.Bool.{true, false}
 use lib.ListN.{length, length-take}
 use lib.Seq.{take-all}
 use Rattle.model.specs.Difference.{Region}
-use Rattle.answer.specs.Answer.{said, wrote}
+use Rattle.answer.specs.Answer.{refused, wrote}
 use Rattle.format.specs.Rows.{outcome}
 use Rattle.format.specs.Limits.{mostDifferences}
 use Rattle.format.specs.Bytes.{cubeLen}
@@ -26,14 +26,14 @@ nothing-back [] old e = refl
 nothing-back (y ∷ ys) old e = absurd (omega arith)
 
 module _ (w room : ℕ) {r : Region} {old new : List ℕ} {t : Totals} (c : Counted (cubeLen w) r old new t) where
-  pub result-long : t .long ≡ true → silent (said 18) ≡ outcome (wholeRows w r room)
+  pub result-long : t .long ≡ true → silent (refused 18) ≡ outcome (wholeRows w r room)
   result-long e = reached 0 (wholeRows w r room) (sym (c .long) ∙ e)
 
   module _ (short : t .long ≡ false) where
     none : anyLong r ≡ false
     none = sym (c .long) ∙ short
 
-    pub result-many : mostDifferences < t .count → silent (said 19) ≡ outcome (wholeRows w r room)
+    pub result-many : mostDifferences < t .count → silent (refused 19) ≡ outcome (wholeRows w r room)
     result-many h = reached 1 (wholeRows w r room) (none, omega (arith, simp length-take at (c .count short)))
 
     module _ (few : t .count ≤ mostDifferences) where
@@ -43,7 +43,7 @@ module _ (w room : ℕ) {r : Region} {old new : List ℕ} {t : Totals} (c : Coun
       pub result-size : t .size ≡ length (differencesBytes (4 * cubeLen w) r)
       result-size = rw (take-all (mostDifferences + 1) r (omega (arith, result-few))) at (c .size short)
 
-      pub result-short : room < t .size + length (widthBytes w) → silent (said 22) ≡ outcome (wholeRows w r room)
+      pub result-short : room < t .size + length (widthBytes w) → silent (refused 22) ≡ outcome (wholeRows w r room)
       result-short h = reached 2 (wholeRows w r room) (none, (result-few, omega (arith, result-size)))
 
       pub result-written : t .size + length (widthBytes w) ≤ room

@@ -63,7 +63,7 @@ pub fn region_intersect(s: &[u8], t: &[u8], out: &mut [u8]) -> Answer
         return Answer::fault(second.number, 2, second.offset);
     }
     if first.width != second.width {
-        return Answer::said(20);
+        return Answer::refused(20);
     }
     write_region(
         Operation::Intersect,

@@ -31,14 +31,14 @@ pub(crate) fn write_region(
     let q = cube_len(w);
     let sum = run(operation, q, s, a, t, x, &mut out[0..0]);
     if sum.long {
-        return Answer::said(18);
+        return Answer::refused(18);
     }
     if MOST_DIFFERENCES < sum.count {
-        return Answer::said(19);
+        return Answer::refused(19);
     }
     let size = sum.size + WIDTH_RECORD;
     if out.len() < size {
-        return Answer::said(22);
+        return Answer::refused(22);
     }
     put_width(out, w);
     run(operation, q, s, a, t, x, &mut out[WIDTH_RECORD..]);

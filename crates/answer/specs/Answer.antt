@@ -1,6 +1,8 @@
 -- The forms of a result. "A result has a number, the operand (1, 2, else 0), an offset, a count of pieces and bytes written. Parts that do not
 -- apply are 0."
---   said n             == the number n alone
+--   accepted           == no refusal: what the tests of an operand give where none of them holds
+--   yes, no            == the answer to a question that shows and counts nothing
+--   refused n          == the refusal n that is of no operand
 --   fault n o at       == the refusal n of operand o, at the offset of the record at fault
 --   counted n k        == the number n with a count of k
 --   showing k b        == no, with a count of k and a header of b bytes written
@@ -9,8 +11,17 @@
 use Prim.Native.Nat.{ℕ}
 use Rattle.answer.specs.declared.Answer.{Answer}
 
-abbrev pub said : ℕ → Answer
-said n = record { number = n; operand = 0; offset = 0; count = 0; written = 0 }
+abbrev pub accepted : Answer
+accepted = record { number = 0; operand = 0; offset = 0; count = 0; written = 0 }
+
+abbrev pub yes : Answer
+yes = record { number = 1; operand = 0; offset = 0; count = 0; written = 0 }
+
+abbrev pub no : Answer
+no = record { number = 2; operand = 0; offset = 0; count = 0; written = 0 }
+
+abbrev pub refused : ℕ → Answer
+refused n = record { number = n; operand = 0; offset = 0; count = 0; written = 0 }
 
 abbrev pub fault : ℕ → ℕ → ℕ → Answer
 fault n o at = record { number = n; operand = o; offset = at; count = 0; written = 0 }

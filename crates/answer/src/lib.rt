@@ -1,7 +1,7 @@
 // The result of every call, by value, with document 01's five parts. It is made only by the functions below, which have the same names in
 // specs/, so that a part can be added here and nowhere else.
 ghost use mathlib.Core.Path.{_≡_};
-ghost use Rattle.answer.specs.Answer.{said, fault, counted, showing, wrote, placed};
+ghost use Rattle.answer.specs.Answer.{accepted, yes, no, refused, fault, counted, showing, wrote, placed};
 
 #[repr(C)]
 pub struct Answer {
@@ -13,9 +13,48 @@ pub struct Answer {
 }
 
 impl Answer {
-    // A number alone: yes, no, or a refusal that is at no record.
-    pub fn said(number: u8) -> Answer
-        ensures { λ r. ⌜ r ≡ said number ⌝ }
+    // No refusal: what the tests of an operand give where none of them holds.
+    pub fn accepted() -> Answer
+        ensures { λ r. ⌜ r ≡ accepted ⌝ }
+    {
+        Answer {
+            number: 0,
+            operand: 0,
+            offset: 0,
+            count: 0,
+            written: 0,
+        }
+    }
+
+    // Yes, to a question that counts nothing.
+    pub fn yes() -> Answer
+        ensures { λ r. ⌜ r ≡ yes ⌝ }
+    {
+        Answer {
+            number: 1,
+            operand: 0,
+            offset: 0,
+            count: 0,
+            written: 0,
+        }
+    }
+
+    // No, to a question that shows nothing.
+    pub fn no() -> Answer
+        ensures { λ r. ⌜ r ≡ no ⌝ }
+    {
+        Answer {
+            number: 2,
+            operand: 0,
+            offset: 0,
+            count: 0,
+            written: 0,
+        }
+    }
+
+    // A refusal that is of no operand.
+    pub fn refused(number: u8) -> Answer
+        ensures { λ r. ⌜ r ≡ refused number ⌝ }
     {
         Answer {
             number,

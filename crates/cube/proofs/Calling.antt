@@ -16,7 +16,7 @@ use lib.ListN.{length}
 use denote.Ref.{RefT, now, ptr}
 use Rattle.model.specs.Cube.{meet, shares, within}
 use Rattle.answer.specs.declared.Answer.{Answer}
-use Rattle.answer.specs.Answer.{said, wrote}
+use Rattle.answer.specs.Answer.{yes, no, refused, wrote}
 use Rattle.format.specs.Rows.{Rows, last, row, so, outcome}
 use Rattle.format.specs.Bytes.{Bytes, codes, readCube, writeCube}
 use Rattle.format.specs.Told.{Told, silent, twoCubes, yesOr, writing}
@@ -40,7 +40,7 @@ module _ (w : ℕ) (a b : List ℕ) where
 
   abbrev meetRows : ℕ → Rows Told
   meetRows room =
-      row (so (not (shares (readCube w a) (readCube w b)))) (silent (said 2))
+      row (so (not (shares (readCube w a) (readCube w b)))) (silent no)
       (writing (writeCube (meet (readCube w a) (readCube w b))) room)
 
   abbrev widerRows : Rows Which
@@ -88,23 +88,23 @@ module _ (w : ℕ) (a b : List ℕ) where
         let m = lent-clean w b (p .1) in
         read-lies w b a (m .0) (k .0) (m .1) (k .1)
 
-    pub in-yes : liesIn a b ≡ true → silent (said 1) ≡ cube-in w a b
+    pub in-yes : liesIn a b ≡ true → silent yes ≡ cube-in w a b
     unfolding cube-in
     in-yes e = reached 0 inRows (sym lies ∙ e) ∙ pair-passed w a b r is silent inRows h
 
-    pub in-no : liesIn a b ≡ false → silent (said 2) ≡ cube-in w a b
+    pub in-no : liesIn a b ≡ false → silent no ≡ cube-in w a b
     unfolding cube-in
     in-no e = reached 1 inRows (sym lies ∙ e, tt) ∙ pair-passed w a b r is silent inRows h
 
-    pub number-first : liesIn b a ≡ true → silent (said 1) ≡ wider-number w a b
+    pub number-first : liesIn b a ≡ true → silent yes ≡ wider-number w a b
     unfolding wider-number
     number-first e = reached 0 eitherRows (rw (sym holds ∙ e)) ∙ pair-passed w a b r is silent eitherRows h
 
-    pub number-second : liesIn a b ≡ true → silent (said 1) ≡ wider-number w a b
+    pub number-second : liesIn a b ≡ true → silent yes ≡ wider-number w a b
     unfolding wider-number
     number-second e = reached 0 eitherRows (rw (sym lies ∙ e) (or-true (within (readCube w b) (readCube w a)))) ∙ pair-passed w a b r is silent eitherRows h
 
-    pub number-neither : liesIn b a ≡ false → liesIn a b ≡ false → silent (said 2) ≡ wider-number w a b
+    pub number-neither : liesIn b a ≡ false → liesIn a b ≡ false → silent no ≡ wider-number w a b
     unfolding wider-number
     number-neither d e = reached 1 eitherRows (rw (sym holds ∙ d, sym lies ∙ e), tt) ∙ pair-passed w a b r is silent eitherRows h
 
@@ -127,7 +127,7 @@ module _ (w : ℕ) (a b : List ℕ) where
         let m = lent-clean w b (p .1) in
         read-shares w a b (k .0) (m .0) (k .1) (m .1)
 
-    pub meet-apart : (room : ℕ) → shares (codes a) (codes b) ≡ false → silent (said 2) ≡ cube-meet w a b room
+    pub meet-apart : (room : ℕ) → shares (codes a) (codes b) ≡ false → silent no ≡ cube-meet w a b room
     unfolding cube-meet
     meet-apart room e = reached 0 (meetRows room) (ap not (sym meeting ∙ e)) ∙ pair-passed w a b r is silent (meetRows room) h
 
@@ -142,7 +142,7 @@ module _ (w : ℕ) (a b : List ℕ) where
       size : length (writeCube (meet (readCube w a) (readCube w b))) ≡ length a
       size = ap length written ∙ length-and a b one-size
 
-      pub meet-short : (room : ℕ) → room < length a → silent (said 22) ≡ cube-meet w a b room
+      pub meet-short : (room : ℕ) → room < length a → silent (refused 22) ≡ cube-meet w a b room
       unfolding cube-meet
       meet-short room l =
           let s = size in

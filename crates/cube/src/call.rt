@@ -28,7 +28,7 @@ fn pair_refusal(w: usize, a: &[u8], b: &[u8]) -> Answer
     if second != 0 {
         return Answer::fault(second, 2, 0);
     }
-    Answer::said(0)
+    Answer::accepted()
 }
 
 // Writes the cube of the headers that are in both; no, and nothing is written, where there is none.
@@ -41,10 +41,10 @@ pub fn cube_meet(w: usize, a: &[u8], b: &[u8], out: &mut [u8]) -> Answer
         return refusal;
     }
     if !meets(a, b) {
-        return Answer::said(2);
+        return Answer::no();
     }
     if out.len() < a.len() {
-        return Answer::said(22);
+        return Answer::refused(22);
     }
     meet_into(a, b, out);
     Answer::wrote(a.len())
@@ -59,9 +59,9 @@ pub fn cube_in(w: usize, a: &[u8], b: &[u8]) -> Answer
         return refusal;
     }
     if lies_in(a, b) {
-        return Answer::said(1);
+        return Answer::yes();
     }
-    Answer::said(2)
+    Answer::no()
 }
 
 // Whether one of two cubes holds the other.
@@ -73,12 +73,12 @@ pub fn wider_number(w: usize, a: &[u8], b: &[u8]) -> Answer
         return refusal;
     }
     if lies_in(b, a) {
-        return Answer::said(1);
+        return Answer::yes();
     }
     if lies_in(a, b) {
-        return Answer::said(1);
+        return Answer::yes();
     }
-    Answer::said(2)
+    Answer::no()
 }
 
 // The wider of two cubes, as the lent bytes themselves: the first if it holds the second, else the second if it holds the first, else nothing.

@@ -75,12 +75,12 @@ pub fn bits_refusal(bs: &[u8], n: usize, used: usize) -> Answer
     ensures { λ r. ⌜ r ≡ outcome (bitsTests n used (now (bs .entry))) ⌝ }
 {
     if bs.len() != header_len(n) {
-        return Answer::said(11);
+        return Answer::refused(11);
     }
     if bits_after(bs, used) {
-        return Answer::said(11);
+        return Answer::refused(11);
     }
-    Answer::said(0)
+    Answer::accepted()
 }
 
 // The cube byte that fixes the last four bits of a byte.

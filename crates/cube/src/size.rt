@@ -19,12 +19,12 @@ pub fn width_refusal(w: usize) -> Answer
     ensures { λ r. ⌜ r ≡ outcome (widthTests w) ⌝ }
 {
     if w == 0 {
-        return Answer::said(10);
+        return Answer::refused(10);
     }
     if WIDEST < w {
-        return Answer::said(10);
+        return Answer::refused(10);
     }
-    Answer::said(0)
+    Answer::accepted()
 }
 
 // The bytes of a cube of w positions.

@@ -7,7 +7,7 @@ use Prim.Native.Nat.{ℕ, _+_, _≤_, _<_}
 use native.Mathlib.Omega.{arith}
 use mathlib.Core.Path.{_≡_, sym, _∙_}
 use Rattle.answer.specs.declared.Answer.{Answer}
-use Rattle.answer.specs.Answer.{said}
+use Rattle.answer.specs.Answer.{refused}
 use Rattle.format.specs.Rows.{Rows, row, below, onto, outcome}
 use Rattle.format.specs.Limits.{widest}
 use Rattle.format.specs.Told.{Told, silent}
@@ -29,7 +29,7 @@ module _ (w s n : ℕ) (r : Answer) (e : r ≡ outcome (fieldTests w s n)) where
       let p = tests-past (fieldTests w s n) r e (omega arith) z in record { narrow = p .1 .0; some = omega arith; inside = p .1 .1 .1 .0 }
 
 pub field-again : (w p q n : ℕ) (k : Rows Told) → FieldIn w p n
-    → outcome (onto silent (fieldTests w q n) k) ≡ outcome (onto silent (fieldTests w p n) (row (below w (q + n)) (silent (said 21)) k))
+    → outcome (onto silent (fieldTests w q n) k) ≡ outcome (onto silent (fieldTests w p n) (row (below w (q + n)) (silent (refused 21)) k))
 field-again w p q n k f =
     sym (skipped 3 (onto silent (fieldTests w q n) k) (omega arith))
-    ∙ skipped 4 (onto silent (fieldTests w p n) (row (below w (q + n)) (silent (said 21)) k)) (omega arith)
+    ∙ skipped 4 (onto silent (fieldTests w p n) (row (below w (q + n)) (silent (refused 21)) k)) (omega arith)

@@ -2,7 +2,7 @@
 --   fieldTests w s n == the tests of a width given directly, and then of a field of n positions from s on
 use Prim.Native.Nat.{ℕ, _+_}
 use Rattle.answer.specs.declared.Answer.{Answer}
-use Rattle.answer.specs.Answer.{said}
+use Rattle.answer.specs.Answer.{accepted, refused}
 use Rattle.format.specs.Rows.{Rows, last, row, then, below, is}
 use Rattle.format.specs.Told.{widthTests}
 
@@ -10,6 +10,6 @@ use Rattle.format.specs.Told.{widthTests}
 abbrev pub fieldTests : ℕ → ℕ → ℕ → Rows Answer
 fieldTests w s n =
     then (widthTests w)
-    (row (is n 0) (said 21)
-    (row (below w (s + n)) (said 21)
-    (last (said 0))))
+    (row (is n 0) (refused 21)
+    (row (below w (s + n)) (refused 21)
+    (last accepted)))

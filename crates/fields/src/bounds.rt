@@ -14,13 +14,13 @@ pub(crate) fn field_refusal(w: usize, s: usize, n: usize) -> Answer
         return refusal;
     }
     if n == 0 {
-        return Answer::said(21);
+        return Answer::refused(21);
     }
     if w < n {
-        return Answer::said(21);
+        return Answer::refused(21);
     }
     if w - n < s {
-        return Answer::said(21);
+        return Answer::refused(21);
     }
-    Answer::said(0)
+    Answer::accepted()
 }

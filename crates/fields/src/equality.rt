@@ -97,11 +97,11 @@ pub fn equal_fields(w: usize, p: usize, q: usize, n: usize, out: &mut [u8]) -> A
     }
     let some = pairs_of(p, q, n);
     if MOST_PAIRS < some {
-        return Answer::said(18);
+        return Answer::refused(18);
     }
     let size = record_len(2 * some, cube_len(w));
     if out.len() < size {
-        return Answer::said(22);
+        return Answer::refused(22);
     }
     put_equality(out, w, p, q, some);
     Answer::wrote(size)

@@ -38,10 +38,10 @@ pub fn prefix(w: usize, s: usize, n: usize, m: usize, value: &[u8], out: &mut [u
         return refusal;
     }
     if m == 0 {
-        return Answer::said(21);
+        return Answer::refused(21);
     }
     if n < m {
-        return Answer::said(21);
+        return Answer::refused(21);
     }
     let wrong = bits_refusal(value, n, m);
     if wrong.number != 0 {
@@ -49,7 +49,7 @@ pub fn prefix(w: usize, s: usize, n: usize, m: usize, value: &[u8], out: &mut [u
     }
     let size = cube_len(w);
     if out.len() < size {
-        return Answer::said(22);
+        return Answer::refused(22);
     }
     put_prefix(&mut out[0..size], s, value, m);
     Answer::wrote(size)

@@ -1,11 +1,12 @@
 -- What a call that walks tells: yes, no with a header, or that the allowance is too small.
 --   Looks w In v             == the walk v, of headers of w positions, looks for the headers that In holds of
 --   count-told               the count told is the decision's
---   Asks w n In v Ok x       == a call with the allowance n, which accepts its operands and room exactly where Ok holds, tells x of such a walk
+--   Asks w n i In v Ok x     == a call with the allowance n, which accepts its operands and room exactly where Ok holds, tells x of such a walk, which
+--                            stops at the index i
 --   asks-yes, asks-yes-when  it says yes exactly when no header is in and the allowance pays for the walk
 --   asks-no                  where it says no, it shows a header that is in
 --   asks-undecided, asks-undecided-when    it is undecided exactly when the walk has more pieces than the allowance, which is then the count
---   asks-count               its count is that of the walk's decision
+--   asks-count               where the allowance pays for the walk, its count is the walk's pieces
 use Prim.Native.Nat.{ℕ, _≤_, _<_}
 use native.Mathlib.Omega.{arith}
 use mathlib.Core.Path.{_≡_, refl, sym, ap, _∙_}
@@ -44,50 +45,50 @@ header-shown w n In h l i =
     }
 
 -- what an allowance makes of a walk, told: the three cases
-told-by : (P : Told → Type 0) (w n : ℕ) (v : Found) → (n < v .pieces → P (silent (counted 3 n)))
+told-by : (P : Told → Type 0) (w n i : ℕ) (v : Found) → (n < v .pieces → P (silent (counted 3 n)))
     → (v .pieces ≤ n → v .survivor ≡ nothing → P (silent (counted 1 (v .pieces))))
     → ((q : Cube) → v .pieces ≤ n → v .survivor ≡ piece q → P (record { answer = showing (v .pieces) (headerLen w); bytes = writeHeader (shown q) }))
-    → P (deciding w (decide n v))
+    → P (deciding w (decide n i v))
 unfolding decide
-told-by P w n v u e m = go (leb (v .pieces) n) refl (v .survivor) refl
+told-by P w n i v u e m = go (leb (v .pieces) n) refl (v .survivor) refl
   where
-    go : (g : Bool) → leb (v .pieces) n ≡ g → (s : Survivor) → v .survivor ≡ s → P (deciding w (cond g (decided (v .pieces) s) (undecided n)))
+    go : (g : Bool) → leb (v .pieces) n ≡ g → (s : Survivor) → v .survivor ≡ s → P (deciding w (cond g (decided (v .pieces) i s) (undecided n i)))
     go true h nothing k = e (leb-true _ _ h) k
     go true h (piece q) k = m q (leb-true _ _ h) k
     go false h s k = u (leb-false _ _ h)
 
 pub count-told : (w : ℕ) (d : Decision) → deciding w d .answer .count ≡ countOf d
-count-told w (undecided n) = refl
+count-told w (undecided n i) = refl
 count-told w (empty n) = refl
-count-told w (member n q) = refl
+count-told w (member n i q) = refl
 
 -- a call that walks
-pub record Asks (w n : ℕ) (In : Header → Bool) (v : Found) (Ok : Type 0) (x : Told) : Type 0 where
+pub record Asks (w n i : ℕ) (In : Header → Bool) (v : Found) (Ok : Type 0) (x : Told) : Type 0 where
   pub accepted : x .answer .number < 10 → Ok
-  pub told : Ok → x ≡ deciding w (decide n v)
+  pub told : Ok → x ≡ deciding w (decide n i v)
   pub looks : Ok → Looks w In v
 
-module _ {w n : ℕ} {In : Header → Bool} {v : Found} {Ok : Type 0} {x : Told} (a : Asks w n In v Ok x) where
+module _ {w n i : ℕ} {In : Header → Bool} {v : Found} {Ok : Type 0} {x : Told} (a : Asks w n i In v Ok x) where
   pub asks-yes : x .answer .number ≡ 1 → Ok × (v .pieces ≤ n) × ((h : Header) → In h ≡ false)
   asks-yes e =
       let l = a .accepted (omega arith) in
-      told-by (λ y. y .answer .number ≡ 1 → Ok × (v .pieces ≤ n) × ((h : Header) → In h ≡ false)) w n v
+      told-by (λ y. y .answer .number ≡ 1 → Ok × (v .pieces ≤ n) × ((h : Header) → In h ≡ false)) w n i v
       (λ m z. absurd (omega arith)) (λ m s z. (l, m, a .looks l .none s)) (λ q m s z. absurd (omega arith)) (rw (a .told l) at e)
 
   pub asks-yes-when : Ok → v .pieces ≤ n → ((h : Header) → length h ≡ w → In h ≡ false) → x .answer .number ≡ 1
   asks-yes-when l m out =
       rw (a .told l)
-      (told-by (λ y. y .answer .number ≡ 1) w n v (λ f. absurd (omega arith)) (λ f s. refl)
+      (told-by (λ y. y .answer .number ≡ 1) w n i v (λ f. absurd (omega arith)) (λ f s. refl)
       (λ q f s.
       let g = a .looks l .sized q s in
-      let i = a .looks l .some q s (shown q) (in-shown q (g .filled)) in
-      absurd (true≢false (sym i ∙ out (shown q) (length-shown q ∙ g .wide)))))
+      let inside = a .looks l .some q s (shown q) (in-shown q (g .filled)) in
+      absurd (true≢false (sym inside ∙ out (shown q) (length-shown q ∙ g .wide)))))
 
   pub asks-no : x .answer .number ≡ 2 → Ok × (v .pieces ≤ n) × Shown w In x
   asks-no e =
       let l = a .accepted (omega arith) in
       rw (a .told l)
-      (told-by (λ y. y .answer .number ≡ 2 → Ok × (v .pieces ≤ n) × Shown w In y) w n v
+      (told-by (λ y. y .answer .number ≡ 2 → Ok × (v .pieces ≤ n) × Shown w In y) w n i v
       (λ m z. absurd (omega arith)) (λ m s z. absurd (omega arith))
       (λ q m s z.
       let g = a .looks l .sized q s in
@@ -98,11 +99,13 @@ module _ {w n : ℕ} {In : Header → Bool} {v : Found} {Ok : Type 0} {x : Told}
   asks-undecided e =
       let l = a .accepted (omega arith) in
       rw (a .told l)
-      (told-by (λ y. y .answer .number ≡ 3 → Ok × (n < v .pieces) × (y .answer .count ≡ n)) w n v
+      (told-by (λ y. y .answer .number ≡ 3 → Ok × (n < v .pieces) × (y .answer .count ≡ n)) w n i v
       (λ m z. (l, m, refl)) (λ m s z. absurd (omega arith)) (λ q m s z. absurd (omega arith)) (rw (a .told l) at e))
 
   pub asks-undecided-when : Ok → n < v .pieces → x .answer .number ≡ 3
-  asks-undecided-when l m = rw (a .told l, undecided-when n v m)
+  asks-undecided-when l m = rw (a .told l, undecided-when n i v m)
 
-  pub asks-count : Ok → x .answer .count ≡ countOf (decide n v)
-  asks-count l = rw (a .told l) (count-told w (decide n v))
+  pub asks-count : Ok → v .pieces ≤ n → x .answer .count ≡ v .pieces
+  asks-count l m =
+      rw (a .told l)
+      (told-by (λ y. y .answer .count ≡ v .pieces) w n i v (λ f. absurd (omega arith)) (λ f s. refl) (λ q f s. refl))

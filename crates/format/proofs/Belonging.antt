@@ -6,16 +6,17 @@
 --   cube-meet-no               cubes that do not meet have no header in common
 use Prim.Native.Nat.{ℕ, _<_}
 use native.Mathlib.Omega.{arith}
-use mathlib.Core.Path.{_≡_, refl}
+use mathlib.Core.Path.{_≡_, refl, ap, _∙_}
 use mathlib.Core.List.{List}
 use mathlib.Core.Logic.{_⊎_, inl, inr}
 use mathlib.Core.Bool.{Bool, true, false, not, _&&_, _||_}
 use borrow.Author.Tests.{not-true}
 use Rattle.model.specs.Cube.{Header, holds, meet, shares, within}
-use Rattle.model.specs.Difference.{inDifference, inRegion}
+use Rattle.model.specs.Difference.{inDifference, inRegion, firstHolder, isHeld}
 use Rattle.model.proofs.Bools.{or-none}
+use Rattle.model.proofs.Holding.{held-in}
 use Rattle.model.proofs.Cubes.{apart-none, within-in, within-out}
-use Rattle.answer.specs.Answer.{said}
+use Rattle.answer.specs.Answer.{no}
 use Rattle.format.specs.Rows.{last, row, so, outcome}
 use Rattle.format.specs.Bytes.{readHeader, readCube, writeCube, lentFault}
 use Rattle.format.specs.Records.{widthOf, differenceAt}
@@ -55,8 +56,10 @@ module _ (s h : List ℕ) where
   region-member-test : region-member s h .answer .number < 10 → region-member s h ≡ outcome (yesOr (inRegion (regionIn s) (readHeader (widthOf s) h)))
   unfolding region-member outcome
   region-member-test l =
-      let k = lentFile s 1 (lentHeader (widthOf s) h (last (outcome (yesOr (inRegion (regionIn s) (readHeader (widthOf s) h)))))) in
+      let x = firstHolder (regionIn s) (readHeader (widthOf s) h) in
+      let k = lentFile s 1 (lentHeader (widthOf s) h (last (outcome (yesOr (isHeld x))))) in
       past (λ x. x .answer .number < 10) k (omega (arith, file-refusal s)) l .1 .1 .1
+      ∙ ap (λ (b : Bool). outcome (yesOr b)) (held-in (regionIn s) (readHeader (widthOf s) h))
 
   pub region-member-yes : region-member s h .answer .number ≡ 1 → inRegion (regionIn s) (readHeader (widthOf s) h) ≡ true
   region-member-yes = yes-true _ _ region-member-test
@@ -126,7 +129,7 @@ module _ (w : ℕ) (a b : List ℕ) where
   cube-meet-no room n h =
       let c = readCube w a in
       let d = readCube w b in
-      let k = row (so (not (shares c d))) (silent (said 2)) (writing (writeCube (meet c d)) room) in
+      let k = row (so (not (shares c d))) (silent no) (writing (writeCube (meet c d)) room) in
       let z = cubes-past (outcome k) (omega arith) .2 in
       let t = each (λ y. y .answer .number ≡ 2 → not (shares c d) ≡ true) k
       (λ f z. f, λ f. (λ g z. absurd (omega arith), λ g z. absurd (omega arith))) (rw z at n) in

@@ -3,7 +3,7 @@
 --                            and no header is in the difference
 --   empty-no                 where it is no, the bytes written are a header in it
 --   empty-undecided, empty-undecided-when    it is undecided exactly when the walk has more pieces than the allowance, which is then the count
---   empty-count              the count is that of the walk's decision
+--   empty-count              where the allowance pays for the walk, the count is its pieces
 --   ceiling-answers, empty-at-most-ceiling, ceiling-suffices    the ceiling is answered, no count is above it, and an allowance of it is enough
 --   region-yes, region-yes-when, region-no, region-undecided, region-undecided-when, region-count
 --                            emptiness of a region, as that of a difference
@@ -12,14 +12,14 @@
 use Prim.Native.Nat.{ℕ, _≤_, _<_}
 use native.Mathlib.Omega.{arith}
 use mathlib.Core.Path.{_≡_, sym, ap, _∙_}
-use mathlib.Core.List.{List}
+use mathlib.Core.List.{List, map}
 use mathlib.Core.Bool.{true, false, not, _&&_}
 use lib.ListN.{length}
 use Rattle.model.specs.Cube.{Header}
 use Rattle.model.specs.Difference.{Difference, Region, inDifference, inRegion}
 use Rattle.model.specs.Sized.{All, Good}
 use Rattle.model.specs.Algebra.{subtraction}
-use Rattle.model.specs.Walk.{walk, walkRegion, walkInclusion, countOf, decide}
+use Rattle.model.specs.Walk.{walk, walkRegion, walkInclusion, walksLess, stop, decide}
 use Rattle.model.specs.Ceiling.{ceiling, mostPieces, capped}
 use Rattle.model.proofs.Walking.{survivor-in, nothing-in, walk-sized, region-survivor-in, region-nothing-in, region-sized}
 use Rattle.model.proofs.Setting.{in-subtraction, good-subtraction}
@@ -62,10 +62,10 @@ lent-good {w} {s} l = good-read (record-of true w 0 s 0 (l .sound))
 
 -- a difference
 module _ (w : ℕ) (s : List ℕ) (n room : ℕ) where
-  empty-asks : Asks w n (inDifference (differenceAt w s 0)) (walk (differenceAt w s 0)) (Lent w s × (headerLen w ≤ room)) (diff-empty w s n room)
+  empty-asks : Asks w n 0 (inDifference (differenceAt w s 0)) (walk (differenceAt w s 0)) (Lent w s × (headerLen w ≤ room)) (diff-empty w s n room)
   unfolding diff-empty
   empty-asks =
-      let k = wide w (lentRecord w s 1 (walking w n room (walk (differenceAt w s 0)))) in
+      let k = wide w (lentRecord w s 1 (walking w n room 0 (walk (differenceAt w s 0)))) in
       record {
         accepted = λ l. let p = past (λ x. x .answer .number < 10) k (omega (arith, record-refusal w s true 0 0)) l in omega arith;
         told = λ l. sym (reached 4 k (omega arith));
@@ -91,7 +91,8 @@ module _ (w : ℕ) (s : List ℕ) (n room : ℕ) where
   pub empty-undecided-when : Lent w s × (headerLen w ≤ room) → n < walk (differenceAt w s 0) .pieces → diff-empty w s n room .answer .number ≡ 3
   empty-undecided-when = asks-undecided-when empty-asks
 
-  pub empty-count : Lent w s × (headerLen w ≤ room) → diff-empty w s n room .answer .count ≡ countOf (decide n (walk (differenceAt w s 0)))
+  pub empty-count : Lent w s × (headerLen w ≤ room) → walk (differenceAt w s 0) .pieces ≤ n
+      → diff-empty w s n room .answer .count ≡ walk (differenceAt w s 0) .pieces
   empty-count = asks-count empty-asks
 
 -- the ceiling of a difference
@@ -106,7 +107,7 @@ module _ (w : ℕ) (s : List ℕ) where
   unfolding diff-empty
   empty-at-most-ceiling n room h =
       let d = differenceAt w s 0 in
-      let k = wide w (lentRecord w s 1 (walking w n room (walk d))) in
+      let k = wide w (lentRecord w s 1 (walking w n room 0 (walk d))) in
       each (λ x. x .answer .count ≤ ceiling-of w s .answer .count) k (
         λ e. omega arith,
         λ some. (
@@ -117,7 +118,7 @@ module _ (w : ℕ) (s : List ℕ) where
               λ e. omega arith,
               λ fits.
                   let c = ceiling-answers (record { some = omega arith; narrow = narrow; sound = sound }) in
-                  rw (c, count-told w (decide n (walk d))) (count-at-most-ceiling d n h),
+                  rw (c, count-told w (decide n 0 (walk d))) (count-at-most-ceiling d n 0 h),
             ),
           ),
         ),
@@ -132,11 +133,11 @@ module _ (w : ℕ) (s : List ℕ) where
 
 -- a region
 module _ (s : List ℕ) (n room : ℕ) where
-  region-asks : Asks (widthOf s) n (inRegion (regionIn s)) (walkRegion (regionIn s)) ((faultNumber (readFile s) ≡ 0) × (headerLen (widthOf s) ≤ room))
+  region-asks : Asks (widthOf s) n (stop n (map walk (regionIn s))) (inRegion (regionIn s)) (walkRegion (regionIn s)) ((faultNumber (readFile s) ≡ 0) × (headerLen (widthOf s) ≤ room))
       (region-empty s n room)
   unfolding region-empty
   region-asks =
-      let k = lentFile s 1 (walking (widthOf s) n room (walkRegion (regionIn s))) in
+      let k = lentFile s 1 (walking (widthOf s) n room (stop n (map walk (regionIn s))) (walkRegion (regionIn s))) in
       record {
         accepted = λ l. let p = past (λ x. x .answer .number < 10) k (omega (arith, file-refusal s)) l in (p .0, p .1 .0);
         told = λ l. sym (reached 2 k (l .0, (l .1, tt)));
@@ -164,19 +165,22 @@ module _ (s : List ℕ) (n room : ℕ) where
       → region-empty s n room .answer .number ≡ 3
   region-undecided-when = asks-undecided-when region-asks
 
-  pub region-count : (faultNumber (readFile s) ≡ 0) × (headerLen (widthOf s) ≤ room)
-      → region-empty s n room .answer .count ≡ countOf (decide n (walkRegion (regionIn s)))
+  pub region-count : (faultNumber (readFile s) ≡ 0) × (headerLen (widthOf s) ≤ room) → walkRegion (regionIn s) .pieces ≤ n
+      → region-empty s n room .answer .count ≡ walkRegion (regionIn s) .pieces
   region-count = asks-count region-asks
 
 -- inclusion of two differences
 module _ (w : ℕ) (s t : List ℕ) (n room : ℕ) where
-  in-asks : Asks w n (λ h. inDifference (differenceAt w s 0) h && not (inDifference (differenceAt w t 0) h)) (walkInclusion (differenceAt w s 0) (differenceAt w t 0))
+  in-asks :
+      let a = differenceAt w s 0 in
+      let b = differenceAt w t 0 in
+      Asks w n (stop n (walksLess a b)) (λ h. inDifference a h && not (inDifference b h)) (walkInclusion a b)
       (Lent w s × Lent w t × (headerLen w ≤ room)) (diff-in w s t n room)
   unfolding diff-in
   in-asks =
       let a = differenceAt w s 0 in
       let b = differenceAt w t 0 in
-      let k = wide w (lentRecord w s 1 (lentRecord w t 2 (walking w n room (walkInclusion a b)))) in
+      let k = wide w (lentRecord w s 1 (lentRecord w t 2 (walking w n room (stop n (walksLess a b)) (walkInclusion a b)))) in
       record {
         accepted = λ l. let p = past (λ x. x .answer .number < 10) k (omega (arith, record-refusal w s true 0 0, record-refusal w t true 0 0)) l in omega arith;
         told = λ l. sym (reached 5 k (omega arith));
@@ -207,6 +211,6 @@ module _ (w : ℕ) (s t : List ℕ) (n room : ℕ) where
       → diff-in w s t n room .answer .number ≡ 3
   in-undecided-when = asks-undecided-when in-asks
 
-  pub in-count : Lent w s × Lent w t × (headerLen w ≤ room)
-      → diff-in w s t n room .answer .count ≡ countOf (decide n (walkInclusion (differenceAt w s 0) (differenceAt w t 0)))
+  pub in-count : Lent w s × Lent w t × (headerLen w ≤ room) → walkInclusion (differenceAt w s 0) (differenceAt w t 0) .pieces ≤ n
+      → diff-in w s t n room .answer .count ≡ walkInclusion (differenceAt w s 0) (differenceAt w t 0) .pieces
   in-count = asks-count in-asks

@@ -12,7 +12,7 @@ use mathlib.Core.List.{List, [], _∷_, map}
 use mathlib.Core.Bool.{false}
 use lib.ListN.{length, getD, length-map}
 use Rattle.model.specs.Difference.{Difference, less}
-use Rattle.answer.specs.Answer.{said, fault}
+use Rattle.answer.specs.Answer.{yes, refused, fault}
 use Rattle.format.specs.Rows.{last, row, below, isnt}
 use Rattle.format.specs.Bytes.{cubeLen}
 use Rattle.format.specs.Records.{countAt, baseAt, widthOf, widthFault, cubeAt, cubesAt, differenceAt}
@@ -47,7 +47,7 @@ listed-at (listed r rest) (suc d) l = listed-at rest d (omega arith)
 seen : (s : List ℕ) (d i : ℕ)
     → let at = getD (offsets (readFile s)) d 0 in
     d < length (offsets (readFile s)) → i ≤ countAt s at → (n : ℕ) × Record false (widthOf s) n s at
-    → Seen s d i (record { answer = said 1; start = baseAt s at + i * cubeLen (widthOf s); size = cubeLen (widthOf s) })
+    → Seen s d i (record { answer = yes; start = baseAt s at + i * cubeLen (widthOf s); size = cubeLen (widthOf s) })
 unfolding cubeAt cubesAt
 seen s d i h l (n, r) =
     let w = widthOf s in
@@ -67,9 +67,9 @@ unfolding view
 view-told s d i e =
     let at = getD (offsets (readFile s)) d 0 in
     let k = row (isnt (faultNumber (readFile s)) 0) (unseen (fault (faultNumber (readFile s)) 1 (faultOffset (readFile s))))
-    (row (below (length (offsets (readFile s))) (d + 1)) (unseen (said 23))
-    (row (below (countAt s at) i) (unseen (said 23))
-    (last (record { answer = said 1; start = baseAt s at + i * cubeLen (widthOf s); size = cubeLen (widthOf s) })))) in
+    (row (below (length (offsets (readFile s))) (d + 1)) (unseen (refused 23))
+    (row (below (countAt s at) i) (unseen (refused 23))
+    (last (record { answer = yes; start = baseAt s at + i * cubeLen (widthOf s); size = cubeLen (widthOf s) })))) in
     let p = past (λ v. v .answer .number < 10) k (omega (arith, file-refusal s)) (omega arith) in
     let r = listed-at (file-of s (p .0) .list) d (omega arith) in
     rw (p .1 .1 .1) (seen s d i (omega arith) (p .1 .1 .0) r)

@@ -20,19 +20,19 @@
 --   read-on                             == one step of reading on, and the next place
 --   question                            == what the question program tells of its input
 use Prim.Native.Nat.{ℕ, _+_, _*_}
-use mathlib.Core.List.{List}
+use mathlib.Core.List.{List, map}
 use mathlib.Core.Bool.{false, not, cond, _||_}
 use lib.Dec.{eqb}
 use lib.ListN.{length, getD}
 use Rattle.model.specs.Cube.{meet, shares, within}
-use Rattle.model.specs.Difference.{inDifference, inRegion}
+use Rattle.model.specs.Difference.{inDifference, firstHolder, isHeld}
 use Rattle.model.specs.Tidy.{tidyRegion}
 use Rattle.model.specs.Algebra.{intersection, intersections, subtraction, subtractions}
 use Rattle.model.specs.Fields.{prefixCube, equalFields}
-use Rattle.model.specs.Walk.{walk, walkRegion, walkInclusion}
+use Rattle.model.specs.Walk.{walk, walkRegion, walkInclusion, walksLess, stop}
 use Rattle.model.specs.Ceiling.{ceiling, capped}
 use Rattle.answer.specs.declared.Answer.{Answer}
-use Rattle.answer.specs.Answer.{said, fault, counted, placed}
+use Rattle.answer.specs.Answer.{yes, no, refused, fault, counted, placed}
 use Rattle.format.specs.Rows.{last, row, onto, below, is, isnt, so, outcome}
 use Rattle.format.specs.Limits.{mostCuts, mostInput}
 use Rattle.format.specs.Bytes.{cubeLen, bits, readHeader, readCube, writeCube}
@@ -52,7 +52,7 @@ cube-meet w a b room =
     (wide w
     (lentCube w a 1
     (lentCube w b 2
-    (row (so (not (shares (readCube w a) (readCube w b)))) (silent (said 2))
+    (row (so (not (shares (readCube w a) (readCube w b)))) (silent no)
     (writing (writeCube (meet (readCube w a) (readCube w b))) room)))))
 
 -- "Cube inclusion, first in second, is 1 or 2 and writes nothing."
@@ -100,7 +100,7 @@ region-member s h =
     outcome
     (lentFile s 1
     (lentHeader (widthOf s) h
-    (yesOr (inRegion (regionIn s) (readHeader (widthOf s) h)))))
+    (yesOr (isHeld (firstHolder (regionIn s) (readHeader (widthOf s) h))))))
 
 -- what writes region files. "Results are tidied and written as region files"
 
@@ -124,7 +124,7 @@ region-intersect s t room =
     outcome
     (lentFile s 1
     (lentFile t 2
-    (row (isnt (widthOf s) (widthOf t)) (silent (said 20))
+    (row (isnt (widthOf s) (widthOf t)) (silent (refused 20))
     (writingRegion (widthOf s) (tidyRegion (intersections (regionIn s) (regionIn t))) room))))
 
 unfoldable pub diff-less : ℕ → List ℕ → List ℕ → ℕ → Told
@@ -150,22 +150,24 @@ diff-empty w s n room =
     outcome
     (wide w
     (lentRecord w s 1
-    (walking w n room (walk (differenceAt w s 0)))))
+    (walking w n room 0 (walk (differenceAt w s 0)))))
 
 unfoldable pub region-empty : List ℕ → ℕ → ℕ → Told
 region-empty s n room =
     outcome
     (lentFile s 1
-    (walking (widthOf s) n room (walkRegion (regionIn s))))
+    (walking (widthOf s) n room (stop n (map walk (regionIn s))) (walkRegion (regionIn s))))
 
 -- "It keeps no result, so a 65th cut is no refusal there."
 unfoldable pub diff-in : ℕ → List ℕ → List ℕ → ℕ → ℕ → Told
 diff-in w s t n room =
+    let a = differenceAt w s 0 in
+    let b = differenceAt w t 0 in
     outcome
     (wide w
     (lentRecord w s 1
     (lentRecord w t 2
-    (walking w n room (walkInclusion (differenceAt w s 0) (differenceAt w t 0))))))
+    (walking w n room (stop n (walksLess a b)) (walkInclusion a b)))))
 
 -- "The ceiling of demand 3 can be asked for one difference"; "0: written, or the ceiling, which is then the count"
 unfoldable pub ceiling-of : ℕ → List ℕ → Told
@@ -183,10 +185,10 @@ unfoldable pub prefix : ℕ → ℕ → ℕ → ℕ → List ℕ → ℕ → Tol
 prefix w s n m value room =
     outcome
     (wide w
-    (row (is n 0) (silent (said 21))
-    (row (below w (s + n)) (silent (said 21))
-    (row (is m 0) (silent (said 21))
-    (row (below n m) (silent (said 21))
+    (row (is n 0) (silent (refused 21))
+    (row (below w (s + n)) (silent (refused 21))
+    (row (is m 0) (silent (refused 21))
+    (row (below n m) (silent (refused 21))
     (lentBits n m value
     (writing (writeCube (prefixCube w s m (bits value))) room)))))))
 
@@ -195,10 +197,10 @@ unfoldable pub equal-fields : ℕ → ℕ → ℕ → ℕ → ℕ → Told
 equal-fields w p q n room =
     outcome
     (wide w
-    (row (is n 0) (silent (said 21))
-    (row (below w (p + n)) (silent (said 21))
-    (row (below w (q + n)) (silent (said 21))
-    (row (below mostCuts (length (equalFields w p q n .cuts))) (silent (said 18))
+    (row (is n 0) (silent (refused 21))
+    (row (below w (p + n)) (silent (refused 21))
+    (row (below w (q + n)) (silent (refused 21))
+    (row (below mostCuts (length (equalFields w p q n .cuts))) (silent (refused 18))
     (writing (differenceBytes w (equalFields w p q n)) room))))))
 
 -- views
@@ -217,9 +219,9 @@ view s d i =
     let at = getD (offsets (readFile s)) d 0 in
     outcome
     (row (isnt (faultNumber (readFile s)) 0) (unseen (fault (faultNumber (readFile s)) 1 (faultOffset (readFile s))))
-    (row (below (length (offsets (readFile s))) (d + 1)) (unseen (said 23))
-    (row (below (countAt s at) i) (unseen (said 23))
-    (last (record { answer = said 1; start = baseAt s at + i * cubeLen (widthOf s); size = cubeLen (widthOf s) })))))
+    (row (below (length (offsets (readFile s))) (d + 1)) (unseen (refused 23))
+    (row (below (countAt s at) i) (unseen (refused 23))
+    (last (record { answer = yes; start = baseAt s at + i * cubeLen (widthOf s); size = cubeLen (widthOf s) })))))
 
 -- reading on
 
@@ -242,7 +244,7 @@ read-on s place =
     let f = differenceFault false (widthOf s) 0 s at in
     outcome
     (row (isnt (widthFault s) 0) (stay (fault (widthFault s) 1 0) place)
-    (row (is at (length s)) (stay (said 2) place)
+    (row (is at (length s)) (stay no place)
     (row (isnt f 0) (stay (fault f 1 at) place)
     (last (record { answer = placed at; place = nextAt s at })))))
 
@@ -250,5 +252,5 @@ read-on s place =
 unfoldable pub question : List ℕ → Told
 question s =
     outcome
-    (row (below mostInput (length s)) (silent (said 25))
+    (row (below mostInput (length s)) (silent (refused 25))
     (last (region-empty s 1000000 40)))

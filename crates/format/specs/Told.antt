@@ -15,7 +15,7 @@
 --   writingFile r bs room  == the region r is to be written, as the bytes bs
 --   writingRegion w r room == the tidied region r is to be written
 --   deciding w d           == what the decision d of a walk tells, with the header that it shows
---   walking w n room v     == the walk v is answered with the allowance n, into a header buffer of that room
+--   walking w n room i v   == the walk v, which stops at the index i, is answered with the allowance n, into a header buffer of that room
 use Prim.Native.Nat.{ℕ}
 use mathlib.Core.Path.{_≡_}
 use mathlib.Core.List.{List, [], _∷_, _++_}
@@ -26,7 +26,7 @@ use Rattle.model.specs.Cube.{shown}
 use Rattle.model.specs.Difference.{Region}
 use Rattle.model.specs.Walk.{Found, Decision, undecided, empty, member, decide}
 use Rattle.answer.specs.declared.Answer.{Answer}
-use Rattle.answer.specs.Answer.{said, fault, counted, showing, wrote}
+use Rattle.answer.specs.Answer.{accepted, yes, no, refused, fault, counted, showing, wrote}
 use Rattle.format.specs.Rows.{Rows, last, row, onto, then, below, is, isnt, so}
 use Rattle.format.specs.Limits.{widest, mostCuts, mostDifferences}
 use Rattle.format.specs.Bytes.{headerLen, bits, anyBit, writeHeader, lentFault}
@@ -53,34 +53,34 @@ silent a = record { answer = a; bytes = [] }
 -- "10: W is 0 or above 320"; "for 10 where W is given directly" operand and offset are 0
 abbrev pub widthTests : ℕ → Rows Answer
 widthTests w =
-    row (is w 0) (said 10)
-    (row (below widest w) (said 10)
-    (last (said 0)))
+    row (is w 0) (refused 10)
+    (row (below widest w) (refused 10)
+    (last accepted))
 
 -- "A lent cube's fault has its operand and offset 0."
 abbrev pub cubeTests : ℕ → List ℕ → ℕ → Rows Answer
 cubeTests w c operand =
     row (isnt (lentFault w c) 0) (fault (lentFault w c) operand 0)
-    (last (said 0))
+    (last accepted)
 
 -- "A single difference is lent as one kind 2 record with W beside it."
 abbrev pub recordTests : ℕ → List ℕ → ℕ → Rows Answer
 recordTests w s operand =
     row (isnt (differenceFault true w 0 s 0) 0) (fault (differenceFault true w 0 s 0) operand 0)
-    (last (said 0))
+    (last accepted)
 
 -- "The offset is that of the record at fault in its operand."
 abbrev pub fileTests : List ℕ → ℕ → Rows Answer
 fileTests s operand =
     row (isnt (faultNumber (readFile s)) 0) (fault (faultNumber (readFile s)) operand (faultOffset (readFile s)))
-    (last (said 0))
+    (last accepted)
 
 -- "11: a header or field value has the wrong length, or a bit set where zero is required"; `used` bits may be set
 abbrev pub bitsTests : ℕ → ℕ → List ℕ → Rows Answer
 bitsTests n used bs =
-    row (isnt (length bs) (headerLen n)) (said 11)
-    (row (so (anyBit (drop used (bits bs)))) (said 11)
-    (last (said 0)))
+    row (isnt (length bs) (headerLen n)) (refused 11)
+    (row (so (anyBit (drop used (bits bs)))) (refused 11)
+    (last accepted))
 
 -- what several calls start with: W given directly, and then two cubes, one record or two
 abbrev pub twoCubes : ℕ → List ℕ → List ℕ → Rows Answer
@@ -114,13 +114,13 @@ lentHeader w h k = lentBits w w h k
 -- yes where b is true
 abbrev pub yesOr : Bool → Rows Told
 yesOr b =
-    row (so b) (silent (said 1))
-    (last (silent (said 2)))
+    row (so b) (silent yes)
+    (last (silent no))
 
 -- "22: the output buffer is too short"
 abbrev pub writing : List ℕ → ℕ → Rows Told
 writing bs room =
-    row (below room (length bs)) (silent (said 22))
+    row (below room (length bs)) (silent (refused 22))
     (last (record { answer = wrote (length bs); bytes = bs }))
 
 abbrev pub anyLong : Region → Bool
@@ -130,8 +130,8 @@ anyLong (d ∷ r) = ltb mostCuts (length (d .cuts)) || anyLong r
 -- "then 18 if any difference of the tidied result has too many cuts, 19, 22"
 abbrev pub writingFile : Region → List ℕ → ℕ → Rows Told
 writingFile r bs room =
-    row (so (anyLong r)) (silent (said 18))
-    (row (below mostDifferences (length r)) (silent (said 19))
+    row (so (anyLong r)) (silent (refused 18))
+    (row (below mostDifferences (length r)) (silent (refused 19))
     (writing bs room))
 
 abbrev pub writingRegion : ℕ → Region → ℕ → Rows Told
@@ -139,12 +139,12 @@ writingRegion w r room = writingFile r (fileBytes w r) room
 
 -- "Every refusal, and answers 1 and 3, write nothing. Answer 2 to emptiness or inclusion writes one header."
 abbrev pub deciding : ℕ → Decision → Told
-deciding w (undecided n) = silent (counted 3 n)
+deciding w (undecided n i) = silent (counted 3 n)
 deciding w (empty n) = silent (counted 1 n)
-deciding w (member n p) = record { answer = showing n (headerLen w); bytes = writeHeader (shown p) }
+deciding w (member n i p) = record { answer = showing n (headerLen w); bytes = writeHeader (shown p) }
 
 -- "The header buffer's room is tested before any walk"
-abbrev pub walking : ℕ → ℕ → ℕ → Found → Rows Told
-walking w n room v =
-    row (below room (headerLen w)) (silent (said 22))
-    (last (deciding w (decide n v)))
+abbrev pub walking : ℕ → ℕ → ℕ → ℕ → Found → Rows Told
+walking w n room i v =
+    row (below room (headerLen w)) (silent (refused 22))
+    (last (deciding w (decide n i v)))

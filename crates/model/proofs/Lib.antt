@@ -9,6 +9,8 @@ pub mod Setting
 pub mod PaddedOperations
 pub mod Field
 pub mod Slips
+pub mod Holding
+pub mod Stopping
 pub mod Walking
 pub mod Including
 pub mod Bound

@@ -1,18 +1,21 @@
 -- Differences of w positions with u unused places behind each cube: as free positions these change nothing of what is made and walked of them.
 --   tidy-padded, intersections-padded, subtractions-padded    the operations on regions
---   walk-padded, inclusion-padded    the walk of a difference, and that of inclusion
-use Prim.Native.Nat.{ℕ}
+--   walk-padded, inclusion-padded, less-padded    the walk of a difference, that of inclusion, and those of its pieces
+--   stop-padded         where walks stop
+use Prim.Native.Nat.{ℕ, _-_}
 use mathlib.Core.Path.{_≡_, refl, sym, ap, ap₂, _∙_}
 use mathlib.Core.List.{List, [], _∷_, _++_, map, map-append}
-use mathlib.Core.Bool.{Bool, true, false, cond}
+use mathlib.Core.Bool.{Bool, true, false, cond, _&&_}
+use lib.Dec.{leb}
 use Rattle.model.specs.Cube.{Cube, meet, shares}
 use Rattle.model.specs.Difference.{Difference, less, Region}
 use Rattle.model.specs.Sized.{All, Sized, Good}
 use Rattle.model.specs.Tidy.{tidy, each, tidyRegion}
 use Rattle.model.specs.Algebra.{intersection, intersections, restored, subtraction, subtractions}
-use Rattle.model.specs.Walk.{walk, walkRegion, walkInclusion}
-use Rattle.model.specs.Padding.{pad, padFound, padDifference}
+use Rattle.model.specs.Walk.{Survivor, nothing, piece, Found, walk, walkRegion, walkInclusion, walkBack, walksLess, covered, covers, stop}
+use Rattle.model.specs.Padding.{pad, padSurvivor, padFound, padDifference}
 use Rattle.model.proofs.Padding.{sized-lengths, meet-pad, shares-pad, in-turn-pad, visit-pad, tidy-pad}
+use Rattle.model.proofs.Cubes.{length-meet}
 use Rattle.model.proofs.Setting.{good-subtraction}
 
 module _ (w u : ℕ) where
@@ -72,3 +75,43 @@ module _ (w u : ℕ) where
   pub inclusion-padded : (a b : Difference) → Good w a → Good w b
       → walkInclusion (padDifference u a) (padDifference u b) ≡ padFound u (walkInclusion a b)
   inclusion-padded a b g h = ap walkRegion (subtraction-padded a b g h) ∙ region-padded (subtraction a b) (good-subtraction w a b g h)
+
+  covers-padded : (n : ℕ) (v : Found) → covers n (padFound u v) ≡ covers n v
+  covers-padded n v = ap (λ (b : Bool). leb (v .pieces) n && b) (go (v .survivor))
+    where
+      go : (s : Survivor) → covered (padSurvivor u s) ≡ covered s
+      go nothing = refl
+      go (piece p) = refl
+
+  pub stop-padded : (n : ℕ) (vs : List Found) → stop n (map (padFound u) vs) ≡ stop n vs
+  unfolding stop
+  stop-padded n [] = refl
+  stop-padded n (v ∷ vs) = rw (covers-padded n v, stop-padded (n - v .pieces) vs)
+
+  back-padded : (a : Difference) → Good w a → (c : Cube) → Sized w c → walkBack (padDifference u a) (pad u c) ≡ padFound u (walkBack a c)
+  unfolding walkBack
+  back-padded a g c l =
+      let e = g .base .wide ∙ sym (l .wide) in
+      let m = meet (a .base) c in
+      rw (
+        shares-pad u (a .base) c e,
+        meet-pad u (a .base) c e,
+        visit-pad u w (a .cuts) m (sized-lengths w (a .cuts) (g .cuts)) (length-meet (a .base) c e ∙ g .base .wide),
+      ) (go (shares (a .base) c))
+    where
+      go : (b : Bool) → cond b (padFound u (walk (less (meet (a .base) c) (a .cuts)))) (record { pieces = 0; survivor = nothing })
+          ≡ padFound u (cond b (walk (less (meet (a .base) c) (a .cuts))) (record { pieces = 0; survivor = nothing }))
+      go true = refl
+      go false = refl
+
+  pub less-padded : (a b : Difference) → Good w a → Good w b → walksLess (padDifference u a) (padDifference u b) ≡ map (padFound u) (walksLess a b)
+  less-padded a b g h =
+      let cs = a .cuts ++ (b .base ∷ []) in
+      ap₂ (λ (v : Found) (vs : List Found). v ∷ vs)
+      (ap (λ (ps : List Cube). walk (less (pad u (a .base)) ps)) (sym (map-append (pad u) (a .cuts) (b .base ∷ [])))
+      ∙ walk-padded (less (a .base) cs) (good-subtraction w a b g h .0))
+      (back (b .cuts) (h .cuts))
+    where
+      back : (cs : List Cube) → All (Sized w) cs → map (walkBack (padDifference u a)) (map (pad u) cs) ≡ map (padFound u) (map (walkBack a) cs)
+      back [] l = refl
+      back (c ∷ cs) l = ap₂ (λ (v : Found) (vs : List Found). v ∷ vs) (back-padded a g c (l .0)) (back cs (l .1))

@@ -12,8 +12,8 @@ use Rattle.model.specs.Walk.{nothing, visit, walk, decide, undecided, em
 pub slips :
     -- 1. Calling a difference empty only if one cut covers the base: ** less 1* less 0* has no header.
     (walk (less (free ∷ free ∷ []) ((v1 ∷ free ∷ []) ∷ (v0 ∷ free ∷ []) ∷ [])) .survivor ≡ nothing)
-    × (decide 2 (walk (less (free ∷ free ∷ []) ((v1 ∷ free ∷ []) ∷ (v0 ∷ free ∷ []) ∷ []))) ≡ empty 2)
-    × (decide 1 (walk (less (free ∷ free ∷ []) ((v1 ∷ free ∷ []) ∷ (v0 ∷ free ∷ []) ∷ []))) ≡ undecided 1)
+    × (decide 2 0 (walk (less (free ∷ free ∷ []) ((v1 ∷ free ∷ []) ∷ (v0 ∷ free ∷ []) ∷ []))) ≡ empty 2)
+    × (decide 1 0 (walk (less (free ∷ free ∷ []) ((v1 ∷ free ∷ []) ∷ (v0 ∷ free ∷ []) ∷ []))) ≡ undecided 1 0)
     -- 2. Subtracting b and not restoring its cuts: 11 is in ** less (1* less 11), and 10 is not.
     × (inRegion (subtraction (less (free ∷ free ∷ []) []) (less (v1 ∷ free ∷ []) ((v1 ∷ v1 ∷ []) ∷ []))) (true ∷ true ∷ []) ≡ true)
     × (inRegion (subtraction (less (free ∷ free ∷ []) []) (less (v1 ∷ free ∷ []) ((v1 ∷ v1 ∷ []) ∷ []))) (true ∷ false ∷ []) ≡ false)

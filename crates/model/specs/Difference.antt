@@ -5,8 +5,13 @@
 --   anyHolds cs h      == the header h is in at least one of the cubes cs
 --   inDifference d h   == h is in the base and in no cut
 --   inRegion r h       == h is in at least one difference of r
+--   Holder             == which of some differences is the first that holds a header: none, or its index, counted from 0
+--   further x          == the holder x, with one difference more before all
+--   firstHolder r h    == the first difference of r that h is in
+--   isHeld x           == there is one
+use Prim.Native.Nat.{ℕ, suc}
 use mathlib.Core.List.{List, [], _∷_}
-use mathlib.Core.Bool.{Bool, false, not, _&&_, _||_}
+use mathlib.Core.Bool.{Bool, true, false, cond, not, _&&_, _||_}
 use Rattle.model.specs.Cube.{Header, Cube, holds}
 
 -- "A difference is one base cube and 0 to 64 cuts."; the limits are of the bytes, and not of the sets
@@ -33,3 +38,19 @@ inDifference d h = holds (d .base) h && not (anyHolds (d .cuts) h)
 abbrev pub inRegion : Region → Header → Bool
 inRegion [] h = false
 inRegion (d ∷ r) h = inDifference d h || inRegion r h
+
+pub data Holder : Type 0 where
+  unheld : Holder
+  held : ℕ → Holder
+
+abbrev pub further : Holder → Holder
+further unheld = unheld
+further (held i) = held (suc i)
+
+abbrev pub firstHolder : Region → Header → Holder
+firstHolder [] h = unheld
+firstHolder (d ∷ r) h = cond (inDifference d h) (held 0) (further (firstHolder r h))
+
+abbrev pub isHeld : Holder → Bool
+isHeld unheld = false
+isHeld (held i) = true

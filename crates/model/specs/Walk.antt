@@ -12,16 +12,21 @@
 --   walk d          == the walk of a difference
 --   walkRegion r    == the walk of a region, difference by difference
 --   walkInclusion   == the walk of "a in b": that of the untidied pieces of a less b
---   Decision        == undecided, empty or a member; each with its count of pieces
+--   walkBack a c    == the walk of what the cut c of a subtracted difference gives back of a: of no piece where that is nothing
+--   walksLess a b   == the walks of the pieces of a less b: the first, and one for each cut of b
+--   covered s       == nothing survived
+--   covers n v      == the allowance n pays for the walk v, and nothing survived
+--   stop n vs       == where the walks vs stop, one after another on the allowance n: how many it covers before the one that decides
+--   Decision        == undecided, empty or a member; each with its count of pieces, and where it was not empty with the index of what decided
 --   countOf d       == the count of pieces of a decision
---   decided n s     == the decision on a walk of n pieces that came to s
---   decide n f      == what the allowance n makes of a walk
-use Prim.Native.Nat.{ℕ, _+_}
-use mathlib.Core.List.{List, [], _∷_, map}
-use mathlib.Core.Bool.{Bool, true, false, cond}
+--   decided n i s   == the decision on a walk of n pieces that came to s, at the index i
+--   decide n i v    == what the allowance n makes of the walk v, which stops at the index i
+use Prim.Native.Nat.{ℕ, suc, _+_, _-_}
+use mathlib.Core.List.{List, [], _∷_, _++_, map}
+use mathlib.Core.Bool.{Bool, true, false, cond, _&&_}
 use lib.Dec.{leb}
-use Rattle.model.specs.Cube.{Code, none, v0, v1, free, Cube, shares}
-use Rattle.model.specs.Difference.{Difference, Region}
+use Rattle.model.specs.Cube.{Code, none, v0, v1, free, Cube, meet, shares}
+use Rattle.model.specs.Difference.{Difference, less, Region}
 use Rattle.model.specs.Algebra.{subtraction}
 
 abbrev pub opens : Code → Code → Bool
@@ -92,20 +97,40 @@ walkRegion r = inTurn walk r
 abbrev pub walkInclusion : Difference → Difference → Found
 walkInclusion a b = walkRegion (subtraction a b)
 
+unfoldable pub walkBack : Difference → Cube → Found
+walkBack a c =
+    let back = walk (less (meet (a .base) c) (a .cuts)) in
+    cond (shares (a .base) c) back (record { pieces = 0; survivor = nothing })
+
+abbrev pub walksLess : Difference → Difference → List Found
+walksLess a b = walk (less (a .base) (a .cuts ++ (b .base ∷ []))) ∷ map (walkBack a) (b .cuts)
+
+-- which of several walks decides
+abbrev pub covered : Survivor → Bool
+covered nothing = true
+covered (piece p) = false
+
+abbrev pub covers : ℕ → Found → Bool
+covers n v = leb (v .pieces) n && covered (v .survivor)
+
+unfoldable pub stop : ℕ → List Found → ℕ
+stop n [] = 0
+stop n (v ∷ vs) = cond (covers n v) (suc (stop (n - v .pieces) vs)) 0
+
 pub data Decision : Type 0 where
-  undecided : ℕ → Decision
+  undecided : ℕ → ℕ → Decision
   empty : ℕ → Decision
-  member : ℕ → Cube → Decision
+  member : ℕ → ℕ → Cube → Decision
 
 abbrev pub countOf : Decision → ℕ
-countOf (undecided n) = n
+countOf (undecided n i) = n
 countOf (empty n) = n
-countOf (member n p) = n
+countOf (member n i p) = n
 
-abbrev pub decided : ℕ → Survivor → Decision
-decided n nothing = empty n
-decided n (piece p) = member n p
+abbrev pub decided : ℕ → ℕ → Survivor → Decision
+decided n i nothing = empty n
+decided n i (piece p) = member n i p
 
 -- "Undecided reports the allowance as its count. With 0 every difference is undecided, count 0."
-unfoldable pub decide : ℕ → Found → Decision
-decide n v = cond (leb (v .pieces) n) (decided (v .pieces) (v .survivor)) (undecided n)
+unfoldable pub decide : ℕ → ℕ → Found → Decision
+decide n i v = cond (leb (v .pieces) n) (decided (v .pieces) i (v .survivor)) (undecided n i)

@@ -12,15 +12,15 @@ use native.Mathlib.Omega.{arith}
 use mathlib.Core.Path.{_≡_, refl, sym, _∙_}
 use mathlib.Core.List.{[], _∷_}
 use mathlib.Core.Bool.{Bool, true, false, true≢false}
-use lib.Dec.{leb, eqb}
+use lib.Dec.{eqb}
 use lib.ListN.{length}
-use borrow.Author.Tests.{leb-true, leb-false, eqb-true, eqb-false}
+use borrow.Author.Tests.{eqb-true, eqb-false}
 use Rattle.model.specs.Cube.{Header}
 use Rattle.model.specs.Difference.{Region}
-use Rattle.model.specs.Walk.{Survivor, nothing, piece, Found, walk, walkRegion, Decision, undecided, empty, member, countOf, decided, decide}
+use Rattle.model.specs.Walk.{Found, walk, walkRegion, Decision, undecided, empty, member, countOf, decide}
 use Rattle.model.proofs.Turns.{next-at-most}
 use Rattle.model.proofs.Bound.{pieces-at-most-ceiling}
-use Rattle.model.proofs.Allowed.{decided-when, undecided-when}
+use Rattle.model.proofs.Allowed.{decide-by}
 use Rattle.format.specs.Rows.{Rows, outcome}
 use Rattle.format.specs.Bytes.{headerLen, readHeader}
 use Rattle.format.specs.Told.{Told, deciding, walking}
@@ -32,31 +32,24 @@ use Rattle.promises.specs.Decides.{Decides, ceilings}
 use Rattle.promises.proofs.Telling.{by-table}
 use Rattle.promises.proofs.Keeping.{Mute, LastLine, told-by}
 
-pub walking-tells : (w n room : ℕ) (v : Found) → Tells (headerLen w ≤ room) (deciding w (decide n v)) (outcome (walking w n room v))
-walking-tells w n room v = by-table 1 _ (omega arith) (omega arith) (omega arith)
+pub walking-tells : (w n room i : ℕ) (v : Found) → Tells (headerLen w ≤ room) (deciding w (decide n i v)) (outcome (walking w n room i v))
+walking-tells w n room i v = by-table 1 _ (omega arith) (omega arith) (omega arith)
 
 -- what an allowance makes of a walk
 told-number : (w : ℕ) (d : Decision) → (1 ≤ deciding w d .answer .number) × (deciding w d .answer .number ≤ 3)
-told-number w (undecided n) = omega arith
+told-number w (undecided n i) = omega arith
 told-number w (empty n) = omega arith
-told-number w (member n p) = omega arith
+told-number w (member n i p) = omega arith
 
-count-decided : (n : ℕ) (s : Survivor) → countOf (decided n s) ≡ n
-count-decided n nothing = refl
-count-decided n (piece p) = refl
-
-module _ (w n : ℕ) (In : Header → Bool) (v : Found) {Ok : Type 0} {x : Told} (t : Tells Ok (deciding w (decide n v)) x)
+module _ (w n i : ℕ) (In : Header → Bool) (v : Found) {Ok : Type 0} {x : Told} (t : Tells Ok (deciding w (decide n i v)) x)
     (yes : x .answer .number ≡ 1 → Ok × (v .pieces ≤ n) × ((h : Header) → In h ≡ false))
     (yes-when : Ok → v .pieces ≤ n → ((h : Header) → length h ≡ w → In h ≡ false) → x .answer .number ≡ 1)
     (no : x .answer .number ≡ 2 → Ok × (v .pieces ≤ n) × Shown w In x)
     (late : x .answer .number ≡ 3 → Ok × (n < v .pieces) × (x .answer .count ≡ n))
-    (late-when : Ok → n < v .pieces → x .answer .number ≡ 3) (count : Ok → x .answer .count ≡ countOf (decide n v)) where
-  count-pieces : Ok → v .pieces ≤ n → x .answer .count ≡ v .pieces
-  count-pieces o paid = rw (count o, decided-when n v paid) (count-decided (v .pieces) (v .survivor))
-
+    (late-when : Ok → n < v .pieces → x .answer .number ≡ 3) (count : Ok → v .pieces ≤ n → x .answer .count ≡ v .pieces) where
   no-when : Ok → v .pieces ≤ n → (h : Header) → In h ≡ true → x .answer .number ≡ 2
   no-when o paid h inside =
-      let r = rw (← t .told o) at (told-number w (decide n v)) in
+      let r = rw (← t .told o) at (told-number w (decide n i v)) in
       let not-yes : x .answer .number ≡ 1 → ⊥ = λ e. let (_, _, none) = yes e in true≢false (sym inside ∙ none h) in
       let not-late : x .answer .number ≡ 3 → ⊥ = λ e. let (_, unpaid, _) = late e in omega arith in
       omega arith
@@ -71,8 +64,8 @@ module _ (w n : ℕ) (In : Header → Bool) (v : Found) {Ok : Type 0} {x : Told}
         );
         shown = λ e. let (_, _, shown) = no e in shown;
         undecided = (λ e. let (o, unpaid, _) = late e in (o, unpaid), λ (o, unpaid). late-when o unpaid);
-        yes-count = λ e. let (o, paid, _) = yes e in count-pieces o paid;
-        no-count = λ e. let (o, paid, _) = no e in count-pieces o paid;
+        yes-count = λ e. let (o, paid, _) = yes e in count o paid;
+        no-count = λ e. let (o, paid, _) = no e in count o paid;
         undecided-count = λ e. let (_, _, all) = late e in all;
       }
 
@@ -83,9 +76,9 @@ pub record Shows (x : Told) : Type 0 where
   pub uncounted : 10 ≤ x .answer .number → x .answer .count ≡ 0
 
 pub deciding-shows : (w : ℕ) (d : Decision) → Shows (deciding w d)
-deciding-shows w (undecided n) = omega arith
+deciding-shows w (undecided n i) = omega arith
 deciding-shows w (empty n) = omega arith
-deciding-shows w (member n p) = record { silent = λ f. absurd (f refl); unwritten = λ f. absurd (f refl); uncounted = omega arith }
+deciding-shows w (member n i p) = record { silent = λ f. absurd (f refl); unwritten = λ f. absurd (f refl); uncounted = omega arith }
 
 pub walk-kept : {w n room : ℕ} {In : Header → Bool} {v : Found} {Ok : Type 0} (k : Rows Told)
     → Mute k → LastLine Shows k → Decides w n In v Ok (outcome k) → (Ok → headerLen w ≤ room) → Kept room (outcome k)
@@ -110,12 +103,9 @@ pub pieces-at-most-ceilings : (r : Region) → walkRegion r .pieces ≤ ceilings
 pieces-at-most-ceilings [] = omega arith
 pieces-at-most-ceilings (d ∷ r) = omega (arith, next-at-most (walk d) (walkRegion r), pieces-at-most-ceiling d, pieces-at-most-ceilings r)
 
-pub count-at-most-pieces : (w n : ℕ) (v : Found) → deciding w (decide n v) .answer .count ≤ v .pieces
-count-at-most-pieces w n v = rw (count-told w (decide n v)) (go (leb (v .pieces) n) refl)
-  where
-    go : (b : Bool) → leb (v .pieces) n ≡ b → countOf (decide n v) ≤ v .pieces
-    go true e = rw (decided-when n v (leb-true _ _ e), count-decided (v .pieces) (v .survivor)) (omega arith)
-    go false e = let l = leb-false _ _ e in rw (undecided-when n v l) (omega arith)
+pub count-at-most-pieces : (w n i : ℕ) (v : Found) → deciding w (decide n i v) .answer .count ≤ v .pieces
+count-at-most-pieces w n i v =
+    rw (count-told w (decide n i v)) (decide-by (λ d. countOf d ≤ v .pieces) n i v (λ unpaid. omega arith) (λ paid none. omega arith) (λ q paid some. omega arith))
 
 pub at-most : (most : ℕ) (k : Rows Told) → Mute k → LastLine (λ x. x .answer .count ≤ most) k → outcome k .answer .count ≤ most
 at-most most = told-by (λ x. x .answer .count ≤ most) (λ x e f c. omega arith)

@@ -61,6 +61,10 @@ pub use Rattle.model.proofs.Field.{in-prefix, in-equal}
 pub use Rattle.model.proofs.Walking.{in-children, survivor-in, survivor-solid, survivor-shown, nothing-in}
 pub use Rattle.model.proofs.Walking.{region-survivor-in, region-survivor-shown, region-nothing-in}
 pub use Rattle.model.proofs.Including.{inclusion-nothing, inclusion-survivor}
+-- which difference is the first that holds a header, and at which difference or piece a walk stops;
+pub use Rattle.model.proofs.Holding.{held-in, held-first}
+pub use Rattle.model.proofs.Including.{less-in-turn}
+pub use Rattle.model.proofs.Stopping.{region-in-turn, stopped-member, stopped-undecided, stopped-empty}
 -- how many pieces there are, and what an allowance makes of them.
 pub use Rattle.model.proofs.Walking.{walk-positive}
 pub use Rattle.model.proofs.Bound.{pieces-at-most-ceiling}

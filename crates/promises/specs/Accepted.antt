@@ -15,7 +15,7 @@ use mathlib.Core.List.{List}
 use mathlib.Core.Bool.{Bool, false, cond}
 use lib.ListN.{length, drop}
 use Rattle.model.specs.Difference.{Region}
-use Rattle.answer.specs.Answer.{said, wrote}
+use Rattle.answer.specs.Answer.{yes, no, wrote}
 use Rattle.format.specs.Limits.{widest, mostDifferences}
 use Rattle.format.specs.Bytes.{headerLen, bits, anyBit, lentFault}
 use Rattle.format.specs.Records.{fileBytes}
@@ -28,7 +28,7 @@ pub record Tells (Ok : Type 0) (y x : Told) : Type 0 where
   pub told : Ok → x ≡ y
 
 abbrev pub yesNo : Bool → Told
-yesNo b = silent (said (cond b 1 2))
+yesNo b = silent (cond b yes no)
 
 abbrev pub writes : List ℕ → Told
 writes bs = record { answer = wrote (length bs); bytes = bs }

@@ -19,7 +19,7 @@ fn ask(input: &[u8], header: &mut [u8]) -> Answer
     ensures bytes { λ _. ⌜ now (header .exit) ≡ over (now (header .entry)) (question (now (input .entry)) .bytes) ⌝ }
 {
     if MOST_INPUT < input.len() {
-        return Answer::said(25);
+        return Answer::refused(25);
     }
     walk::region_empty(input, 1000000, header)
 }

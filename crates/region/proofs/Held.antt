@@ -1,18 +1,19 @@
 -- Asking a record for a header by bytes: one turn of the question, and what the answer means.
 --   any-none, any-here, any-next     no cube left; the header is in the first cube; it is not, so the others decide
 --   record-short, record-out, record-in   too few bytes lent; not in the base; in the base, so the cuts decide
---   record-member, file-member   of an accepted record, or of those of an accepted file, the answer is whether the header is in the difference, or in
---                    the region
+--   held-before, held-now, held-not    the first holder with one record more: one was found before; this record is the first; it is not
+--   record-member    of an accepted record the answer is whether the header is in the difference
+--   file-member      of the records of an accepted file, the first that it is true of is the first difference that holds the header
 use Prim.Native.Nat.{ℕ, zero, suc, _+_, _-_, _*_, _≤_, _<_}
 use native.Mathlib.Numerals.{sub-one}
 use native.Mathlib.Omega.{arith}
-use mathlib.Core.Path.{_≡_, refl, ap₂, _∙_}
+use mathlib.Core.Path.{_≡_, refl, sym, ap₂, _∙_}
 use mathlib.Core.List.{List}
-use mathlib.Core.Bool.{Bool, true, false, not, _&&_, _||_}
+use mathlib.Core.Bool.{Bool, true, false, cond, not, _&&_, _||_, true≢false}
 use lib.ListN.{length, take, drop, length-take, length-drop}
 use lib.Seq.{length-take-le}
 use Rattle.model.specs.Cube.{holds}
-use Rattle.model.specs.Difference.{anyHolds, inDifference, inRegion}
+use Rattle.model.specs.Difference.{anyHolds, inDifference, Holder, unheld, held, further, firstHolder, isHeld}
 use Rattle.format.specs.Limits.{widest}
 use Rattle.format.specs.Bytes.{headerLen, cubeLen, readHeader, codes, cubeFault}
 use Rattle.format.specs.Records.{countAt, baseAt, cubeAt, cubesAt, differenceAt}
@@ -22,7 +23,7 @@ use Rattle.format.proofs.Filing.{Listed, ended, listed}
 use Rattle.cube.specs.Header.{spelledCube}
 use Rattle.cube.proofs.Pairs.{lies-apart}
 use Rattle.cube.proofs.Member.{spelled-in}
-use Rattle.region.specs.Asked.{cubeIn, anyIn, heldBy, inRecord, anyRecord}
+use Rattle.region.specs.Asked.{cubeIn, anyIn, heldBy, inRecord, firstRecord, orHeld}
 
 -- one turn
 module _ (q : ℕ) (h s : List ℕ) (a : ℕ) where
@@ -61,6 +62,29 @@ module _ (q : ℕ) (h s : List ℕ) (a k : ℕ) where
   unfolding heldBy
   record-in b r e t f = rw (← e, t, f)
 
+-- the first holder, with one record more
+module _ (x : Holder) (b : Bool) (n : ℕ) where
+  pub held-before : isHeld x ≡ true → x ≡ orHeld x b n
+  held-before e = go x e
+    where
+      go : (x : Holder) → isHeld x ≡ true → x ≡ orHeld x b n
+      go unheld e = absurd (true≢false (sym e))
+      go (held i) e = refl
+
+  pub held-now : isHeld x ≡ false → (c : Bool) → c ≡ b → c ≡ true → held n ≡ orHeld x b n
+  held-now e c q t = go x e
+    where
+      go : (x : Holder) → isHeld x ≡ false → held n ≡ orHeld x b n
+      go unheld e = rw (← q, t)
+      go (held i) e = absurd (true≢false e)
+
+  pub held-not : isHeld x ≡ false → (c : Bool) → c ≡ b → c ≡ false → unheld ≡ orHeld x b n
+  held-not e c q t = go x e
+    where
+      go : (x : Holder) → isHeld x ≡ false → unheld ≡ orHeld x b n
+      go unheld e = rw (← q, t)
+      go (held i) e = absurd (true≢false e)
+
 -- what the answer means, where c spells the header of the bytes h
 module _ (w : ℕ) (h c : List ℕ) (narrow : w ≤ widest) (l : length h ≡ headerLen w) (e : codes c ≡ spelledCube h) where
   here-holds : (s : List ℕ) (a : ℕ) → a + cubeLen w ≤ length s → cubeFault w (take (cubeLen w) (drop a s)) ≡ 0
@@ -92,6 +116,6 @@ module _ (w : ℕ) (h c : List ℕ) (narrow : w ≤ widest) (l : length h ≡ he
       let cuts = any-holds s (countAt s at) (base + q) (omega arith) (λ i j. rw (next i) (each-cube r (suc i) (omega arith))) in
       ap₂ (λ (x y : Bool). x && not y) first cuts
 
-  pub file-member : {s : List ℕ} {at n : ℕ} {os : List ℕ} → Listed w s at n os → anyRecord w c s os ≡ inRegion (regionOf w s os) (readHeader w h)
+  pub file-member : {s : List ℕ} {at n : ℕ} {os : List ℕ} → Listed w s at n os → firstRecord w c s os ≡ firstHolder (regionOf w s os) (readHeader w h)
   file-member (ended m) = refl
-  file-member (listed r rest) = ap₂ (λ (x y : Bool). x || y) (record-member r) (file-member rest)
+  file-member (listed r rest) = ap₂ (λ (b : Bool) (x : Holder). cond b (held 0) (further x)) (record-member r) (file-member rest)

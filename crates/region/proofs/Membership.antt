@@ -8,7 +8,7 @@ use mathlib.Core.List.{List}
 use mathlib.Core.Bool.{Bool, true, false}
 use borrow.Author.Tests.{eqb-true, eqb-false}
 use lib.Dec.{eqb}
-use Rattle.model.specs.Difference.{inDifference, inRegion}
+use Rattle.model.specs.Difference.{inDifference, firstHolder, isHeld}
 use Rattle.answer.specs.declared.Answer.{Answer}
 use Rattle.format.specs.Rows.{outcome}
 use Rattle.format.specs.Bytes.{codes, readHeader}
@@ -20,7 +20,7 @@ use Rattle.format.proofs.Lending.{bits-refused, bits-passed, bits-lent, one-pas
 use Rattle.format.proofs.Recording.{record-of}
 use Rattle.format.proofs.Filing.{file-of}
 use Rattle.cube.specs.Header.{spelledCube}
-use Rattle.region.specs.Asked.{inRecord}
+use Rattle.region.specs.Asked.{inRecord, holderOf}
 use Rattle.region.specs.Reader.{AskedIs}
 use Rattle.region.specs.declared.asking.Asked.{Asked}
 use Rattle.region.proofs.Held.{record-member, file-member}
@@ -50,13 +50,13 @@ diff-told w s h c b r i z e q =
     header-asked w h b d (λ y. q ∙ record-member w h c (l .narrow) (bits-lent w w h _ refl y .0) e (record-of true w 0 s 0 (l .sound)))
     ∙ one-passed w s r i silent (lentHeader w h (yesOr d)) z
 
-pub region-told : (s h c : List ℕ) (r : Asked) → AskedIs s c r → faultNumber (readFile s) ≡ 0 → codes c ≡ spelledCube h
-    → outcome (lentHeader (r .file .width) h (yesOr (r .held))) ≡ region-member s h
+pub region-told : (s h c : List ℕ) (r : Asked) (b : Bool) → AskedIs s c r → b ≡ isHeld (holderOf (r .holder)) → faultNumber (readFile s) ≡ 0
+    → codes c ≡ spelledCube h → outcome (lentHeader (r .file .width) h (yesOr b)) ≡ region-member s h
 unfolding region-member
-region-told s h c r i n e =
+region-told s h c r b i q n e =
     let w = widthOf s in
     let a = file-of s n in
-    let d = inRegion (regionIn s) (readHeader w h) in
-    ap (λ (v : ℕ). outcome (lentHeader v h (yesOr (r .held)))) (i .file .width)
-    ∙ header-asked w h (r .held) d (λ z. i .held ∙ file-member w h c (a .width .narrow) (bits-lent w w h _ refl z .0) e (a .list))
+    let d = isHeld (firstHolder (regionIn s) (readHeader w h)) in
+    ap (λ (v : ℕ). outcome (lentHeader v h (yesOr b))) (i .file .width)
+    ∙ header-asked w h b d (λ z. q ∙ ap isHeld (i .holder ∙ file-member w h c (a .width .narrow) (bits-lent w w h _ refl z .0) e (a .list)))
     ∙ file-passed s 1 (lentHeader w h (yesOr d)) n

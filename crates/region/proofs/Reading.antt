@@ -4,19 +4,23 @@
 --   Reached s at n           == the reader is at an offset, after n accepted records, which it passed
 --   begun, turned            it is there after an accepted kind 1 record, and after one accepted record more
 --   width-refused, record-refused, ended    what is given back: kind 1 refused, a record refused, the end reached
---   Asking s h at n held     == Reached, and `held` is whether what h spells is in one of the records passed
+--   Asking s h at n x        == Reached, and x is the first of the records passed that holds what h spells
 --   asking, asked-turned     Asking holds after an accepted kind 1 record, and after one accepted record more
 --   asked-width, asked-refused, asked-ended    what is given back: kind 1 refused, a record refused, the end reached
-use Prim.Native.Nat.{ℕ, _+_, _-_, _≤_, _<_}
+use Prim.Native.Nat.{ℕ, suc, _+_, _-_, _≤_, _<_}
 use native.Mathlib.Omega.{arith}
 use mathlib.Core.Path.{_≡_, refl, sym, ap, _∙_}
 use mathlib.Core.List.{List, [], _∷_, _++_, append-assoc, append-nil}
-use mathlib.Core.Bool.{Bool, false, _||_, or-assoc, or-false}
+use mathlib.Core.Bool.{Bool, true, false, cond}
 use lib.ListN.{length, length-append}
+use Rattle.model.specs.Difference as model
+use Rattle.model.specs.Difference.{unheld, held, further}
 use Rattle.format.specs.Records.{nextAt, widthOf, firstAt, widthFault, differenceFault}
 use Rattle.format.specs.Files.{Reading, refused, whole, faultNumber, faultOffset, offsets, before, differencesFrom, readFile}
 use Rattle.format.proofs.Filing.{from-end, from-refused, from-record, read-refused, read-begun}
-use Rattle.region.specs.Asked.{inRecord, anyRecord}
+use Rattle.region.specs.declared.member.Holder.{Holder}
+use Rattle.region.specs.declared.member.Holder.the-variants.{Unheld}
+use Rattle.region.specs.Asked.{inRecord, firstRecord, holderOf, orHeld}
 use Rattle.region.specs.Reader.{FileIs, refusal, AskedIs, unasked}
 
 abbrev pub after : List ℕ → Reading → Reading
@@ -91,38 +95,53 @@ module _ {s : List ℕ} {at n : ℕ} (r : Reached s at n) where
   ended l = of-whole s (r .passed) n (r .counted) (whole-here l)
 
 -- a header is asked of each record
-pub record Asking (s h : List ℕ) (at n : ℕ) (held : Bool) : Type 0 where
+pub record Asking (s h : List ℕ) (at n : ℕ) (x : Holder) : Type 0 where
   pub reached : Reached s at n
-  pub asked : held ≡ anyRecord (widthOf s) h s (reached .passed)
+  pub asked : holderOf x ≡ firstRecord (widthOf s) h s (reached .passed)
 
-any-append : (w : ℕ) (h s os : List ℕ) (at : ℕ) → anyRecord w h s (os ++ (at ∷ [])) ≡ anyRecord w h s os || inRecord w h s at
-any-append w h s [] at = or-false (inRecord w h s at)
-any-append w h s (o ∷ os) at =
-    ap (λ (b : Bool). inRecord w h s o || b) (any-append w h s os at) ∙ sym (or-assoc (inRecord w h s o) (anyRecord w h s os) (inRecord w h s at))
+-- one record more behind those
+further-or : (x : model.Holder) (b : Bool) (n : ℕ) → further (orHeld x b n) ≡ orHeld (further x) b (suc n)
+further-or unheld true n = refl
+further-or unheld false n = refl
+further-or (held i) b n = refl
 
-pub asking : (s h : List ℕ) → widthFault s ≡ 0 → Asking s h (firstAt s) 0 false
+first-append : (w : ℕ) (h s os : List ℕ) (at : ℕ) → firstRecord w h s (os ++ (at ∷ [])) ≡ orHeld (firstRecord w h s os) (inRecord w h s at) (length os)
+first-append w h s [] at = refl
+first-append w h s (o ∷ os) at = go (inRecord w h s o) (first-append w h s os at)
+  where
+    go : (b : Bool) → firstRecord w h s (os ++ (at ∷ [])) ≡ orHeld (firstRecord w h s os) (inRecord w h s at) (length os)
+        → cond b (held 0) (further (firstRecord w h s (os ++ (at ∷ []))))
+        ≡ orHeld (cond b (held 0) (further (firstRecord w h s os))) (inRecord w h s at) (suc (length os))
+    go true ih = refl
+    go false ih = ap further ih ∙ further-or (firstRecord w h s os) (inRecord w h s at) (length os)
+
+pub asking : (s h : List ℕ) → widthFault s ≡ 0 → Asking s h (firstAt s) 0 Unheld
 unfolding begun
 asking s h e = record { reached = begun s e; asked = refl }
 
 none-asked : (s h : List ℕ) (f at : ℕ) → readFile s ≡ refused f at → AskedIs s h (unasked f at (widthOf s))
-none-asked s h f at q = record { file = of-refused s f at q; held = rw q refl }
+none-asked s h f at q = record { file = of-refused s f at q; holder = rw q refl }
 
 pub asked-width : (s h : List ℕ) (f : ℕ) → f ≡ widthFault s → (f ≡ 0 → ⊥) → AskedIs s h (unasked f 0 (widthOf s))
 asked-width s h f e z = none-asked s h f 0 (refused-wide s f e z)
 
-module _ {s h : List ℕ} {at n : ℕ} {held : Bool} (a : Asking s h at n held) where
-  pub asked-turned : (later : Bool) → at < length s → differenceFault false (widthOf s) n s at ≡ 0 → later ≡ held || inRecord (widthOf s) h s at
-      → Asking s h (nextAt s at) (n + 1) later
+module _ {s h : List ℕ} {at n : ℕ} {x : Holder} (a : Asking s h at n x) where
+  pub asked-turned : (later : Holder) → at < length s → differenceFault false (widthOf s) n s at ≡ 0
+      → holderOf later ≡ orHeld (holderOf x) (inRecord (widthOf s) h s at) n → Asking s h (nextAt s at) (n + 1) later
   unfolding turned
   asked-turned later l f e =
       record {
         reached = turned (a .reached) l f;
-        asked = e ∙ ap (λ (b : Bool). b || inRecord (widthOf s) h s at) (a .asked) ∙ sym (any-append (widthOf s) h s (a .reached .passed) at);
+        asked = e ∙ rw (a .asked, ← a .reached .counted) (sym (first-append (widthOf s) h s (a .reached .passed) at));
       }
 
   pub asked-refused : (f : ℕ) → at < length s → f ≡ differenceFault false (widthOf s) n s at → (f ≡ 0 → ⊥)
       → AskedIs s h (unasked f at (widthOf s))
   asked-refused f l e z = none-asked s h f at (refused-here (a .reached) f l e z)
 
-  pub asked-ended : length s ≤ at → AskedIs s h (record { file = record { number = 0; offset = 0; width = widthOf s; count = n }; held = held })
-  asked-ended l = record { file = ended (a .reached) l; held = a .asked ∙ ap (anyRecord (widthOf s) h s) (sym (ap offsets (whole-here (a .reached) l))) }
+  pub asked-ended : length s ≤ at → AskedIs s h (record { file = record { number = 0; offset = 0; width = widthOf s; count = n }; holder = x })
+  asked-ended l =
+      record {
+        file = ended (a .reached) l;
+        holder = a .asked ∙ ap (firstRecord (widthOf s) h s) (sym (ap offsets (whole-here (a .reached) l)));
+      }

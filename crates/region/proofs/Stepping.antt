@@ -15,7 +15,7 @@ use lib.Dec.{leb, eqb, ltb}
 use lib.ListN.{length, replicate}
 use denote.Ref.{now}
 use Rattle.answer.specs.declared.Answer.{Answer}
-use Rattle.answer.specs.Answer.{said, fault, placed}
+use Rattle.answer.specs.Answer.{no, fault, placed}
 use Rattle.format.specs.Rows.{passes, outcome}
 use Rattle.format.specs.Limits.{mostDifferences, differenceKind}
 use Rattle.format.specs.Records.{lengthAt, kindAt, nextAt, widthOf, firstAt, widthFault, differenceRows, differenceFault}
@@ -38,7 +38,7 @@ module _ (s : List ℕ) (p : ℕ) where
   on-width z = sym (reached 0 _ z)
 
   module _ (at : ℕ) (f : widthFault s ≡ 0) (e : startOf s p ≡ at) where
-    on-end : at ≡ length s → read-on s p ≡ stay (said 2) p
+    on-end : at ≡ length s → read-on s p ≡ stay no p
     unfolding read-on
     on-end l = sym (reached 1 _ (f, e ∙ l))
 
@@ -87,17 +87,17 @@ uncounted w n s at z =
 -- an accepted file
 listed-steps : {s : List ℕ} {at n : ℕ} {os : List ℕ} → widthFault s ≡ 0 → Listed (widthOf s) s at n os → (p : ℕ) → startOf s p ≡ at
     → at ≤ length s
-    → (m : ℕ) → answers (length os + m) s p ≡ map placed os ++ replicate m (said 2)
-listed-steps {s} f (ended {at} h) p e l m = rw zero-add (stuck s p (said 2) (on-end s p at f e (omega arith)) m)
+    → (m : ℕ) → answers (length os + m) s p ≡ map placed os ++ replicate m no
+listed-steps {s} f (ended {at} h) p e l m = rw zero-add (stuck s p no (on-end s p at f e (omega arith)) m)
 listed-steps {s} f (listed {at} {os = os} r rest) p e l m =
-    one-more s p at (nextAt s at) m os (replicate m (said 2)) (on-record s p at f e (omega (arith, r)) (uncounted-record r))
+    one-more s p at (nextAt s at) m os (replicate m no) (on-record s p at f e (omega (arith, r)) (uncounted-record r))
     (listed-steps f rest (nextAt s at) (start-next s at) (r .within) m)
 
 width-accepted : (s : List ℕ) (b : Bool) → eqb (widthFault s) 0 ≡ b → faultNumber (readFile s) ≡ 0 → widthFault s ≡ 0
 width-accepted s true e z = eqb-true (widthFault s) 0 e
 width-accepted s false e z = let f = eqb-false (widthFault s) 0 e in sym (ap faultNumber (read-refused s f)) ∙ z
 
-pub accepted-steps : (s : List ℕ) {os : List ℕ} → readFile s ≡ whole os → (m : ℕ) → answers (length os + m) s 0 ≡ map placed os ++ replicate m (said 2)
+pub accepted-steps : (s : List ℕ) {os : List ℕ} → readFile s ≡ whole os → (m : ℕ) → answers (length os + m) s 0 ≡ map placed os ++ replicate m no
 accepted-steps s e m =
     let f = file-of s (ap faultNumber e) in
     let z = width-accepted s (eqb (widthFault s) 0) refl (ap faultNumber e) in

@@ -8,7 +8,7 @@ use mathlib.Core.Path.{_≡_, refl, sym, ap, _∙_}
 use mathlib.Core.List.{List, [], _∷_}
 use mathlib.Core.Bool.{false}
 use lib.ListN.{length, getD}
-use Rattle.answer.specs.Answer.{said, fault}
+use Rattle.answer.specs.Answer.{yes, refused, fault}
 use Rattle.format.specs.Bytes.{cubeLen}
 use Rattle.format.specs.Records.{widthOf, firstAt}
 use Rattle.format.specs.Files.{readFile, offsets}
@@ -36,7 +36,7 @@ module _ (s : List ℕ) (r : File) (f : FileIs s r) (d i : ℕ) where
   unfolding view
   view-fault n = rw (f .number, f .offset) (reached 0 _ (λ z. n (f .number ∙ z)))
 
-  pub view-none : r .number ≡ 0 → r .count ≤ d → unseen (said 23) ≡ view s d i
+  pub view-none : r .number ≡ 0 → r .count ≤ d → unseen (refused 23) ≡ view s d i
   unfolding view
   view-none n l = reached 1 _ (sym (f .number) ∙ n, omega (arith, f .count))
 
@@ -50,12 +50,12 @@ module _ (s : List ℕ) (r : File) (f : FileIs s r) (d i : ℕ) where
     here = rw offset (listed-at (file-of s (sym (f .number) ∙ n) .list) d (omega (arith, f .count)))
 
     module _ {front : Front} (p : FrontIs s at front) where
-      pub view-beyond : front .cuts < i → unseen (said 23) ≡ view s d i
+      pub view-beyond : front .cuts < i → unseen (refused 23) ≡ view s d i
       unfolding view
       view-beyond b = let k = rw (p .cuts, offset) at b in reached 2 _ (sym (f .number) ∙ n, (omega (arith, f .count), k))
 
       pub view-cube : i ≤ front .cuts
-          → record { answer = said 1; start = front .base + i * cubeLen (widthOf s); size = cubeLen (widthOf s) } ≡ view s d i
+          → record { answer = yes; start = front .base + i * cubeLen (widthOf s); size = cubeLen (widthOf s) } ≡ view s d i
       unfolding view
       view-cube b =
           let k = rw (p .cuts, offset) at b in

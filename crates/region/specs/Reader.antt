@@ -2,7 +2,7 @@
 --   ReadIs w n s at r       == r is what reading the record at an offset of a file gives: its fault, with n differences before it, and its front
 --   FileIs s r              == r is what reading the file s gives: its refusal and where, its width, how many differences it has
 --   refusal number at w     == a refused file's parts
---   AskedIs s h r           == r is what reading the file s gives, and whether what h spells is in one of its differences; a refused file has none
+--   AskedIs s h r           == r is what reading the file s gives, and the first of its differences that holds what h spells; a refused file has none
 --   unasked number at w     == a refused file's parts, where a header was asked
 use Prim.Native.Nat.{ℕ}
 use mathlib.Core.Path.{_≡_}
@@ -14,8 +14,9 @@ use Rattle.format.specs.Files.{readFile, faultNumber, faultOffset, offsets}
 use Rattle.region.specs.declared.files.File.{File}
 use Rattle.region.specs.declared.record.Read.{Read}
 use Rattle.region.specs.declared.asking.Asked.{Asked}
+use Rattle.region.specs.declared.member.Holder.the-variants.{Unheld}
 use Rattle.region.specs.Front.{FrontIs}
-use Rattle.region.specs.Asked.{anyRecord}
+use Rattle.region.specs.Asked.{firstRecord, holderOf}
 
 pub record ReadIs (w n : ℕ) (s : List ℕ) (at : ℕ) (r : Read) : Type 0 where
   pub number : r .number ≡ differenceFault false w n s at
@@ -32,7 +33,7 @@ refusal number at w = record { number = number; offset = at; width = w; count = 
 
 pub record AskedIs (s h : List ℕ) (r : Asked) : Type 0 where
   pub file : FileIs s (r .file)
-  pub held : r .held ≡ anyRecord (widthOf s) h s (offsets (readFile s))
+  pub holder : holderOf (r .holder) ≡ firstRecord (widthOf s) h s (offsets (readFile s))
 
 abbrev pub unasked : ℕ → ℕ → ℕ → Asked
-unasked number at w = record { file = refusal number at w; held = false }
+unasked number at w = record { file = refusal number at w; holder = Unheld }

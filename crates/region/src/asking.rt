@@ -2,6 +2,7 @@
 ghost use mathlib.Core.Path.{_≡_};
 ghost use Rattle.region.specs.Reader.{AskedIs, unasked};
 use super::files::File;
+use super::member::Holder;
 use super::member::found;
 use super::record::read_record;
 use super::width::first_at;
@@ -9,10 +10,10 @@ use super::width::width_fault;
 use super::width::width_of;
 use cube::cube_len;
 
-// What reading a file finds, and whether the header asked for is in one of its differences; a refused file has none.
+// What reading a file finds, and which of its differences is the first that holds the header asked for; a refused file has none.
 pub(crate) struct Asked {
     pub(crate) file: File,
-    pub(crate) held: bool,
+    pub(crate) holder: Holder,
 }
 
 impl Asked {
@@ -21,7 +22,7 @@ impl Asked {
     {
         Asked {
             file: File::refused(number, offset, width),
-            held: false,
+            holder: Holder::Unheld,
         }
     }
 }
@@ -38,13 +39,13 @@ pub(crate) fn ask_file(s: &[u8], h: &[u8]) -> Asked
     let q = cube_len(w);
     let mut at = first_at(s);
     let mut n: usize = 0;
-    let mut held = false;
+    let mut holder = Holder::Unheld;
     while at < s.len() {
         let read = read_record(s, at, w, n);
         if read.number != 0 {
             return Asked::refused(read.number, at, w);
         }
-        held = found(s, read.front, q, h, held);
+        holder = found(s, read.front, q, h, holder, n);
         at = read.front.next;
         n += 1;
     }
@@ -55,6 +56,6 @@ pub(crate) fn ask_file(s: &[u8], h: &[u8]) -> Asked
             width: w,
             count: n,
         },
-        held,
+        holder,
     }
 }

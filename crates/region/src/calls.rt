@@ -7,6 +7,7 @@ use super::asking::ask_file;
 use super::front::front_at;
 use super::lent::one_refusal;
 use super::member::in_difference;
+use super::member::is_held;
 use answer::Answer;
 use cube::bits_refusal;
 use cube::cube_len;
@@ -21,9 +22,9 @@ fn told(h: &[u8], w: usize, held: bool) -> Answer
         return refusal;
     }
     if held {
-        return Answer::said(1);
+        return Answer::yes();
     }
-    Answer::said(2)
+    Answer::no()
 }
 
 // Whether the header h of w positions is in the difference that is lent as one kind 2 record.
@@ -48,5 +49,6 @@ pub fn region_member(s: &[u8], h: &[u8]) -> Answer
     if file.number != 0 {
         return Answer::fault(file.number, 1, file.offset);
     }
-    told(h, file.width, asked.held)
+    let holder = asked.holder;
+    told(h, file.width, is_held(holder))
 }

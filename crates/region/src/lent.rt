@@ -14,7 +14,7 @@ pub fn record_refusal(w: usize, s: &[u8], operand: u8) -> Answer
     if fault != 0 {
         return Answer::fault(fault, operand, 0);
     }
-    Answer::said(0)
+    Answer::accepted()
 }
 
 // The refusal of a width given directly or of the record beside it, or the number 0.

@@ -1,10 +1,10 @@
 // Whether a header is in the difference of a record. The header is lent as the cube that fixes each of its bits.
 ghost use mathlib.Core.Path.{_≡_};
-ghost use mathlib.Core.Bool.{_||_};
 ghost use Prim.Native.Nat.{_+_, _*_, _≤_};
 ghost use lib.ListN.{length};
 ghost use Rattle.region.specs.Front.{Stands};
-ghost use Rattle.region.specs.Asked.{cubeIn, anyIn, heldBy};
+ghost use Rattle.model.specs.Difference.{isHeld};
+ghost use Rattle.region.specs.Asked.{cubeIn, anyIn, heldBy, holderOf, orHeld};
 use super::front::Front;
 use cube::lies_in;
 
@@ -47,13 +47,32 @@ pub(crate) fn in_difference(s: &[u8], front: Front, q: usize, h: &[u8]) -> bool
     false
 }
 
-// Whether it was found before this record, or is in its difference. What was found is not looked for again.
-pub(crate) fn found(s: &[u8], front: Front, q: usize, h: &[u8], before: bool) -> bool
-    requires { ⌜ Stands q (now s) front ⌝ }
-    ensures { λ r. ⌜ r ≡ before || heldBy q (now (h .entry)) (now (s .entry)) (front .base) (front .cuts) ⌝ }
+// The first difference that holds a header: none, or its index.
+pub(crate) enum Holder {
+    Unheld,
+    Held(usize),
+}
+
+// Whether there is one.
+pub(crate) fn is_held(x: Holder) -> bool
+    ensures { λ r. ⌜ r ≡ isHeld (holderOf x) ⌝ }
 {
-    if before {
-        return true;
+    match x {
+        Holder::Unheld => false,
+        Holder::Held(_) => true,
     }
-    in_difference(s, front, q, h)
+}
+
+// The first holder up to this record, the n-th, where `before` is that of the n before it. What was found is not looked for again.
+pub(crate) fn found(s: &[u8], front: Front, q: usize, h: &[u8], before: Holder, n: usize) -> Holder
+    requires { ⌜ Stands q (now s) front ⌝ }
+    ensures { λ r. ⌜ holderOf r ≡ orHeld (holderOf before) (heldBy q (now (h .entry)) (now (s .entry)) (front .base) (front .cuts)) n ⌝ }
+{
+    if is_held(before) {
+        return before;
+    }
+    if in_difference(s, front, q, h) {
+        return Holder::Held(n);
+    }
+    Holder::Unheld
 }

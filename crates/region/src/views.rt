@@ -31,7 +31,7 @@ pub fn stretch_of(s: &[u8], d: usize, i: usize) -> Stretch
     }
     if f.count <= d {
         return Stretch {
-            answer: Answer::said(23),
+            answer: Answer::refused(23),
             start: 0,
             size: 0,
         };
@@ -39,14 +39,14 @@ pub fn stretch_of(s: &[u8], d: usize, i: usize) -> Stretch
     let front = front_at(s, seek(s, d));
     if front.cuts < i {
         return Stretch {
-            answer: Answer::said(23),
+            answer: Answer::refused(23),
             start: 0,
             size: 0,
         };
     }
     let q = cube_len(f.width);
     Stretch {
-        answer: Answer::said(1),
+        answer: Answer::yes(),
         start: front.base + i * q,
         size: q,
     }

@@ -3,20 +3,22 @@
 --   settle-on               n pieces are paid for and nothing survived: the rest goes on with what is left
 --   settle-zero, settle-none   nothing is left to visit; no piece can be paid for
 --   said-on, said-stop      of two walks: the first is covered, and the second goes on; or the first is the answer
---   said-allowance          what is said of a decided walk has the allowance that it left
+--   stop-covered, stop-decided    where such walks stop: the first is covered, and it is one more than where the others stop; or it is the first
 --   settle-keeps            what is left and what is spent make the same sum
+--   said-allowance          what is said of a decided walk has the allowance that it left
 --   decision-settle         on a fresh allowance a walk is decided as the model decides it
-use Prim.Native.Nat.{ℕ, _+_, _-_, _≤_, _<_, zero-le}
+use Prim.Native.Nat.{ℕ, suc, _+_, _-_, _≤_, _<_, zero-le}
 use native.Mathlib.Nat.{zero-add}
 use native.Mathlib.Omega.{arith}
 use mathlib.Core.Path.{_≡_, refl, sym, _∙_}
 use mathlib.Core.Bool.{Bool, true, false, cond}
 use mathlib.Core.Logic.{_⊎_, inl, inr, ⊎-elim}
-use mathlib.Core.List.{[]}
+use mathlib.Core.List.{List, [], _∷_}
 use lib.Dec.{leb}
 use borrow.Author.Tests.{le-leb, lt-leb, leb-true, leb-false}
-use Rattle.model.specs.Walk.{Survivor, nothing, piece, Found, joined, next, decide, decided, undecided}
+use Rattle.model.specs.Walk.{Survivor, nothing, piece, Found, joined, next, covers, stop, decide, decided, undecided}
 use Rattle.model.proofs.Turns.{next-by}
+use Rattle.model.proofs.Stopping.{stop-on, stop-here}
 use Rattle.visits.specs.Settle.{Said, after, saidOf, unpaid, settle, decision}
 use Rattle.visits.specs.declared.allowance.Allowance.{Allowance}
 use Rattle.visits.specs.declared.allowance.Verdict.the-variants.{Covered, Undecided}
@@ -102,6 +104,30 @@ module _ (a : Allowance) (v u : Found) (d : Said) (e : d ≡ settle a v) where
   pub said-stop : (d .verdict ≡ Covered → ⊥) → d ≡ settle a (next v u)
   said-stop c = e ∙ sym (settle-stop a v u (rw e at c))
 
+-- where such walks stop
+module _ (a : Allowance) (v : Found) (d : Said) (e : d ≡ settle a v) where
+  pub stop-covered : d .verdict ≡ Covered → (vs : List Found) → stop (a .left) (v ∷ vs) ≡ suc (stop (d .allowance .left) vs)
+  stop-covered c vs = ⊎-elim enough short (le-or-lt (v .pieces) (a .left))
+    where
+      enough : v .pieces ≤ a .left → stop (a .left) (v ∷ vs) ≡ suc (stop (d .allowance .left) vs)
+      enough k =
+          let z = e ∙ settle-le a v k in
+          let q = covered-nothing (after a (v .pieces)) (v .survivor) (rw z at c) in
+          stop-on (a .left) v vs (rw (le-leb _ _ k, q)) ∙ rw (z, q)
+
+      short : a .left < v .pieces → stop (a .left) (v ∷ vs) ≡ suc (stop (d .allowance .left) vs)
+      short k =
+          let q : Undecided ≡ Covered = rw (e ∙ settle-lt a v k) at c in
+          let z : _≡_ {A = ℕ} 0 1 = cc in absurd (omega arith)
+
+  pub stop-decided : (d .verdict ≡ Covered → ⊥) → (vs : List Found) → stop (a .left) (v ∷ vs) ≡ 0
+  stop-decided c vs = stop-here (a .left) v vs (go (leb (v .pieces) (a .left)) refl (v .survivor) refl)
+    where
+      go : (b : Bool) → leb (v .pieces) (a .left) ≡ b → (s : Survivor) → v .survivor ≡ s → covers (a .left) v ≡ false
+      go true l nothing q = absurd (c (rw (e, settle-le a v (leb-true _ _ l), q)))
+      go true l (piece p) q = rw (l, q)
+      go false l s q = rw l
+
 pub said-allowance : (a : Allowance) (s : Survivor) → saidOf a s .allowance ≡ a
 said-allowance a nothing = refl
 said-allowance a (piece p) = refl
@@ -113,17 +139,18 @@ settle-sum a v =
 pub settle-keeps : (a : Allowance) (v : Found) (d : Said) → d ≡ settle a v → d .allowance .left + d .allowance .spent ≡ a .left + a .spent
 settle-keeps a v d e = rw e (settle-sum a v)
 
-said-decided : (a : Allowance) (s : Survivor) → decision (saidOf a s) ≡ decided (a .spent) s
-said-decided a nothing = refl
-said-decided a (piece p) = refl
+said-decided : (a : Allowance) (i : ℕ) (s : Survivor) → decision i (saidOf a s) ≡ decided (a .spent) i s
+said-decided a i nothing = refl
+said-decided a i (piece p) = refl
 
-pub decision-settle : (n : ℕ) (v : Found) → decision (settle (record { left = n; spent = 0 }) v) ≡ decide n v
+pub decision-settle : (n i : ℕ) (v : Found) → decision i (settle (record { left = n; spent = 0 }) v) ≡ decide n i v
 unfolding settle decide
-decision-settle n v = go (leb (v .pieces) n)
+decision-settle n i v = go (leb (v .pieces) n)
   where
     fresh : Allowance
     fresh = record { left = n; spent = 0 }
 
-    go : (g : Bool) → decision (cond g (saidOf (after fresh (v .pieces)) (v .survivor)) (unpaid fresh)) ≡ cond g (decided (v .pieces) (v .survivor)) (undecided n)
-    go true = said-decided (after fresh (v .pieces)) (v .survivor) ∙ rw zero-add
+    go : (g : Bool) → decision i (cond g (saidOf (after fresh (v .pieces)) (v .survivor)) (unpaid fresh))
+        ≡ cond g (decided (v .pieces) i (v .survivor)) (undecided n i)
+    go true = said-decided (after fresh (v .pieces)) i (v .survivor) ∙ rw zero-add
     go false = rw zero-add

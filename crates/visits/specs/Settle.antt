@@ -7,8 +7,8 @@
 --   unpaid a           == what is said where the allowance a does not pay
 --   settle a v         == paying the pieces of the walk v out of the allowance a
 --   leftFrom f c a p   == what is left to visit of a piece that a cut c meets, on the allowance a: p agrees with c where its pieces were visited
---   decisionOf v n p   == the decision of a verdict, with its count and its piece
---   decision d         == what a walk that began with nothing spent comes to
+--   decisionOf v n i p == the decision of a verdict, with its count, the index of what decided, and its piece
+--   decision i d       == what a walk that began with nothing spent, and stopped at the index i, comes to
 use Prim.Native.Nat.{ℕ, _+_, _-_}
 use mathlib.Core.List.{[]}
 use mathlib.Core.Bool.{cond}
@@ -52,10 +52,10 @@ settle a v = cond (leb (v .pieces) (a .left)) (saidOf (after a (v .pieces)) (v .
 unfoldable pub leftFrom : (Cube → Found) → Cube → Allowance → Cube → Said
 leftFrom f c a p = settle a (inTurn f (children p c))
 
-abbrev pub decisionOf : Verdict → ℕ → Cube → Decision
-decisionOf Covered n p = empty n
-decisionOf Survives n p = member n p
-decisionOf Undecided n p = undecided n
+abbrev pub decisionOf : Verdict → ℕ → ℕ → Cube → Decision
+decisionOf Covered n i p = empty n
+decisionOf Survives n i p = member n i p
+decisionOf Undecided n i p = undecided n i
 
-abbrev pub decision : Said → Decision
-decision d = decisionOf (d .verdict) (d .allowance .spent) (d .piece)
+abbrev pub decision : ℕ → Said → Decision
+decision i d = decisionOf (d .verdict) (d .allowance .spent) i (d .piece)

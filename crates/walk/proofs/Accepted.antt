@@ -1,6 +1,6 @@
 -- The walk over the bytes of an accepted record is the model's walk of its difference, and what its outcome tells.
 --   record-walk, record-ceiling    the walk over the bytes, with the unused places behind each cube, and the ceiling
---   outcome-told         of an outcome on a fresh allowance is told what is told of the walk
+--   outcome-told         what is told of how walks ended that began on a fresh allowance is the decision of the model's walk
 use Prim.Native.Nat.{ℕ, _*_, _≤_}
 use mathlib.Core.Path.{_≡_, refl, ap, _∙_}
 use mathlib.Core.Bool.{Bool}
@@ -28,7 +28,7 @@ use Rattle.visits.specs.Settle.{says, kept, settle, decisionOf, decision}
 use Rattle.walk.specs.Tell.{toldOf}
 use Rattle.visits.specs.declared.allowance.Verdict.{Verdict}
 use Rattle.visits.specs.declared.allowance.Verdict.the-variants.{Covered, Survives, Undecided}
-use Rattle.visits.specs.declared.allowance.Outcome.{Outcome}
+use Rattle.walk.specs.declared.stop.Stop.{Stop}
 use Rattle.visits.proofs.Settle.{decision-settle}
 
 module _ {alone : Bool} {w n : ℕ} {s : List ℕ} {at : ℕ} (r : Record alone w n s at) {f : Front} (i : FrontIs s at f) where
@@ -43,27 +43,28 @@ module _ {alone : Bool} {w n : ℕ} {s : List ℕ} {at : ℕ} (r : Record alone 
 
 -- the first w positions of each cube
 abbrev front : ℕ → Decision → Decision
-front w (undecided n) = undecided n
+front w (undecided n i) = undecided n i
 front w (empty n) = empty n
-front w (member n p) = member n (take w p)
+front w (member n i p) = member n i (take w p)
 
-outcome-front : (w q : ℕ) (v : Verdict) (n : ℕ) (bs : List ℕ) → w ≤ 4 * q → toldOf w v n bs ≡ deciding w (front w (decisionOf v n (kept v (cubeOf q bs))))
+outcome-front : (w q : ℕ) (v : Verdict) (n i : ℕ) (bs : List ℕ) → w ≤ 4 * q
+    → deciding w (decisionOf v n i (take w (codes bs))) ≡ deciding w (front w (decisionOf v n i (kept v (cubeOf q bs))))
 unfolding cubeOf
-outcome-front w q Covered n bs h = refl
-outcome-front w q Survives n bs h = rw (codes-take q bs, take-take w (4 * q) (codes bs) h)
-outcome-front w q Undecided n bs h = refl
+outcome-front w q Covered n i bs h = refl
+outcome-front w q Survives n i bs h = rw (codes-take q bs, take-take w (4 * q) (codes bs) h)
+outcome-front w q Undecided n i bs h = refl
 
-front-padded : (w u n : ℕ) (v : Found) → ((p : Cube) → v .survivor ≡ piece p → Sized w p) → front w (decide n (padFound u v)) ≡ decide n v
-front-padded w u n v l =
-    decide-by (λ d. front w (decide n (padFound u v)) ≡ d) n v
-    (λ k. rw (undecided-when n (padFound u v) k))
-    (λ k e. rw (decided-when n (padFound u v) k, e))
-    (λ p k e. rw (decided-when n (padFound u v) k, e) (ap (member (v .pieces)) (take-at p (replicate u free) w (l p e .wide))))
+front-padded : (w u n i : ℕ) (v : Found) → ((p : Cube) → v .survivor ≡ piece p → Sized w p) → front w (decide n i (padFound u v)) ≡ decide n i v
+front-padded w u n i v l =
+    decide-by (λ d. front w (decide n i (padFound u v)) ≡ d) n i v
+    (λ k. rw (undecided-when n i (padFound u v) k))
+    (λ k e. rw (decided-when n i (padFound u v) k, e))
+    (λ p k e. rw (decided-when n i (padFound u v) k, e) (ap (member (v .pieces) i) (take-at p (replicate u free) w (l p e .wide))))
 
-pub outcome-told : (w q u n : ℕ) (v : Found) (r : Outcome) → w ≤ 4 * q → ((p : Cube) → v .survivor ≡ piece p → Sized w p)
-    → says q r ≡ settle (record { left = n; spent = 0 }) (padFound u v)
-    → toldOf w (r .verdict) (r .allowance .spent) (r .piece) ≡ deciding w (decide n v)
+pub outcome-told : (w q u n : ℕ) (v : Found) (r : Stop) → w ≤ 4 * q → ((p : Cube) → v .survivor ≡ piece p → Sized w p)
+    → says q (r .outcome) ≡ settle (record { left = n; spent = 0 }) (padFound u v) → toldOf w r ≡ deciding w (decide n (r .index) v)
 outcome-told w q u n v r h l e =
-    outcome-front w q (r .verdict) (r .allowance .spent) (r .piece) h
-    ∙ ap (λ d. deciding w (front w d)) (ap decision e ∙ decision-settle n (padFound u v))
-    ∙ ap (deciding w) (front-padded w u n v l)
+    let o = r .outcome in
+    outcome-front w q (o .verdict) (o .allowance .spent) (r .index) (o .piece) h
+    ∙ ap (λ d. deciding w (front w d)) (ap (decision (r .index)) e ∙ decision-settle n (r .index) (padFound u v))
+    ∙ ap (deciding w) (front-padded w u n (r .index) v l)

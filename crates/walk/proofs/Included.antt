@@ -5,17 +5,17 @@ use native.Mathlib.Omega.{arith}
 use mathlib.Core.Path.{_≡_, ap, ap₂, _∙_}
 use mathlib.Core.List.{List}
 use mathlib.Core.Bool.{true}
-use Rattle.model.specs.Walk.{walkInclusion}
+use Rattle.model.specs.Walk.{walkInclusion, walksLess, stop, decide}
 use Rattle.model.specs.Algebra.{subtraction}
 use Rattle.model.proofs.Setting.{good-subtraction}
 use Rattle.model.proofs.Walking.{region-sized}
-use Rattle.model.proofs.PaddedOperations.{inclusion-padded}
+use Rattle.model.proofs.PaddedOperations.{inclusion-padded, less-padded, stop-padded}
 use Rattle.answer.specs.declared.Answer.{Answer}
-use Rattle.answer.specs.Answer.{said}
+use Rattle.answer.specs.Answer.{refused}
 use Rattle.format.specs.Rows.{outcome}
 use Rattle.format.specs.Bytes.{cubeLen, headerLen, unused}
 use Rattle.format.specs.Records.{differenceAt}
-use Rattle.format.specs.Told.{silent, twoRecords, walking}
+use Rattle.format.specs.Told.{silent, twoRecords, deciding, walking}
 use Rattle.format.specs.Calls.{diff-in}
 use Rattle.format.proofs.Reached.{reached}
 use Rattle.format.proofs.Lending.{two-passed, two-lent}
@@ -25,29 +25,33 @@ use Rattle.region.specs.Front.{FrontIs, wholeDifference}
 use Rattle.region.proofs.Fronts.{whole-record}
 use Rattle.visits.specs.Settle.{settle, says}
 use Rattle.walk.specs.Tell.{toldOf}
-use Rattle.visits.specs.declared.allowance.Outcome.{Outcome}
+use Rattle.walk.specs.declared.stop.Stop.{Stop}
 use Rattle.walk.proofs.Accepted.{outcome-told}
 
 module _ (w : ℕ) (s t : List ℕ) (n room : ℕ) (r : Answer) (is : r ≡ outcome (twoRecords w s t)) (z : r .number ≡ 0) where
-  pub in-room : room < headerLen w → silent (said 22) ≡ diff-in w s t n room
+  pub in-room : room < headerLen w → silent (refused 22) ≡ diff-in w s t n room
   unfolding diff-in
   in-room h =
-      let k = walking w n room (walkInclusion (differenceAt w s 0) (differenceAt w t 0)) in
-      reached 0 k h ∙ two-passed w s t r is k z
-
-  pub in-told : headerLen w ≤ room → {f g : Front} → FrontIs s 0 f → FrontIs t 0 g → (o : Outcome)
-      → says (cubeLen w) o ≡ settle (record { left = n; spent = 0 }) (walkInclusion (wholeDifference (cubeLen w) s f) (wholeDifference (cubeLen w) t g))
-      → toldOf w (o .verdict) (o .allowance .spent) (o .piece) ≡ diff-in w s t n room
-  unfolding diff-in
-  in-told h i j o e =
-      let lent = two-lent w s t r is z in
-      let x = record-of true w 0 s 0 (lent .0 .sound) in
-      let y = record-of true w 0 t 0 (lent .1 .sound) in
       let a = differenceAt w s 0 in
       let b = differenceAt w t 0 in
-      let k = walking w n room (walkInclusion a b) in
-      let p = ap₂ walkInclusion (whole-record x i) (whole-record y j) ∙ inclusion-padded w (unused w) a b (good-read x) (good-read y) in
-      outcome-told w (cubeLen w) (unused w) n (walkInclusion a b) o (omega arith)
-      (region-sized w (subtraction a b) (good-subtraction w a b (good-read x) (good-read y)))
+      let k = walking w n room (stop n (walksLess a b)) (walkInclusion a b) in
+      reached 0 k h ∙ two-passed w s t r is k z
+
+  pub in-told : headerLen w ≤ room → {f g : Front} → FrontIs s 0 f → FrontIs t 0 g → (x : Stop)
+      → says (cubeLen w) (x .outcome) ≡ settle (record { left = n; spent = 0 }) (walkInclusion (wholeDifference (cubeLen w) s f) (wholeDifference (cubeLen w) t g))
+      → x .index ≡ stop n (walksLess (wholeDifference (cubeLen w) s f) (wholeDifference (cubeLen w) t g)) → toldOf w x ≡ diff-in w s t n room
+  unfolding diff-in
+  in-told h i j x e at =
+      let lent = two-lent w s t r is z in
+      let l = record-of true w 0 s 0 (lent .0 .sound) in
+      let m = record-of true w 0 t 0 (lent .1 .sound) in
+      let a = differenceAt w s 0 in
+      let b = differenceAt w t 0 in
+      let k = walking w n room (stop n (walksLess a b)) (walkInclusion a b) in
+      let p = ap₂ walkInclusion (whole-record l i) (whole-record m j) ∙ inclusion-padded w (unused w) a b (good-read l) (good-read m) in
+      let q = ap₂ walksLess (whole-record l i) (whole-record m j) ∙ less-padded w (unused w) a b (good-read l) (good-read m) in
+      outcome-told w (cubeLen w) (unused w) n (walkInclusion a b) x (omega arith)
+      (region-sized w (subtraction a b) (good-subtraction w a b (good-read l) (good-read m)))
       (e ∙ ap (settle (record { left = n; spent = 0 })) p)
+      ∙ ap (λ (c : ℕ). deciding w (decide n c (walkInclusion a b))) (at ∙ ap (stop n) q ∙ stop-padded w (unused w) n (walksLess a b))
       ∙ reached 1 k (h, tt) ∙ two-passed w s t r is k z

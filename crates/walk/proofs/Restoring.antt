@@ -1,44 +1,32 @@
 -- The walk of "a in b": the first piece, and what the cuts of b give back of a.
---   back-apart, back-met       what a cut gives back: nothing, or the meet less the cuts of a
+--   back-apart                 a cut that shares no header with the base gives back nothing
 --   restored-cut, restored-none   what cuts give back that stand in bytes: the next cut, and the others; or none is left
-use Prim.Native.Nat.{ℕ, suc, _+_}
-use native.Mathlib.Nat.{zero-add}
-use mathlib.Core.Path.{_≡_, refl, sym}
-use mathlib.Core.List.{List, [], _∷_}
-use mathlib.Core.Bool.{Bool, true, false, cond}
-use Rattle.model.specs.Cube.{Cube, meet, shares}
-use Rattle.model.specs.Difference.{Difference, less}
+--   CutsLeft                   == what is left to walk of what the cuts of b give back, on what is left of an allowance: i pieces are covered
+--   cuts-begun, cuts-turn, cuts-stop, cuts-ended    cut by cut
+use Prim.Native.Nat.{ℕ, suc, _+_, _-_, _*_, _^_, _≤_, _<_}
+use native.Mathlib.Nat.{add-zero}
+use native.Mathlib.Omega.{arith}
+use mathlib.Core.Path.{_≡_, refl, sym, ap, _∙_}
+use mathlib.Core.List.{List, [], _∷_, map}
+use mathlib.Core.Bool.{false}
+use lib.ListN.{length}
+use Rattle.model.specs.Cube.{Cube, shares}
+use Rattle.model.specs.Difference.{Difference}
 use Rattle.model.specs.Algebra.{restored}
-use Rattle.model.specs.Walk.{nothing, Found, next, visit, walk, walkRegion}
+use Rattle.model.specs.Walk.{next, walkRegion, walkBack, stop}
+use Rattle.model.proofs.Including.{restored-next}
+use Rattle.format.specs.Limits.{mostCuts}
 use Rattle.cube.specs.Whole.{wholeAt, wholesAt}
-use Rattle.walk.specs.Lent.{walkBack}
-use Rattle.visits.specs.Settle.{settle}
+use Rattle.visits.specs.Settle.{Said, settle}
 use Rattle.visits.specs.declared.allowance.Allowance.{Allowance}
 use Rattle.visits.specs.declared.allowance.Verdict.the-variants.{Covered}
-use Rattle.visits.proofs.Settle.{settle-zero}
+use Rattle.visits.proofs.Settle.{settle-zero, settle-keeps, said-on, said-stop, stop-covered, stop-decided}
+use Rattle.visits.proofs.Cuts as cuts
 
--- what one cut gives back
-module _ (a : Difference) (c : Cube) where
-  pub back-apart : shares (a .base) c ≡ false → (h : Allowance) → record { allowance = h; verdict = Covered; piece = [] } ≡ settle h (walkBack a c)
-  unfolding walkBack
-  back-apart e h = rw e (sym (settle-zero h))
-
-  pub back-met : shares (a .base) c ≡ true → walkBack a c ≡ visit (a .cuts) (meet (a .base) c)
-  unfolding walkBack
-  back-met e = rw e
-
--- what the cuts give back, one after another
-after-none : (v : Found) → v ≡ next (record { pieces = 0; survivor = nothing }) v
-after-none v = λ i. record { pieces = sym (zero-add (v .pieces)) i; survivor = v .survivor }
-
-restored-next : (a : Difference) (c : Cube) (cs : List Cube) → walkRegion (restored a (c ∷ cs)) ≡ next (walkBack a c) (walkRegion (restored a cs))
-unfolding restored walkBack
-restored-next a c cs = go (shares (a .base) c)
-  where
-    go : (b : Bool) → walkRegion (cond b (less (meet (a .base) c) (a .cuts) ∷ restored a cs) (restored a cs))
-        ≡ next (cond b (walk (less (meet (a .base) c) (a .cuts))) (record { pieces = 0; survivor = nothing })) (walkRegion (restored a cs))
-    go true = refl
-    go false = after-none (walkRegion (restored a cs))
+pub back-apart : (a : Difference) (c : Cube) → shares (a .base) c ≡ false → (h : Allowance)
+    → record { allowance = h; verdict = Covered; piece = [] } ≡ settle h (walkBack a c)
+unfolding walkBack
+back-apart a c e h = rw e (sym (settle-zero h))
 
 module _ (a : Difference) (q : ℕ) (t : List ℕ) (at n : ℕ) where
   pub restored-cut : (m : ℕ) → n ≡ suc m
@@ -49,3 +37,59 @@ module _ (a : Difference) (q : ℕ) (t : List ℕ) (at n : ℕ) where
   pub restored-none : n ≡ 0 → (h : Allowance) → record { allowance = h; verdict = Covered; piece = [] } ≡ settle h (walkRegion (restored a (wholesAt q t at n)))
   unfolding wholesAt restored
   restored-none e h = rw e (sym (settle-zero h))
+
+  backs-cut : (m : ℕ) → n ≡ suc m → map (walkBack a) (wholesAt q t at n) ≡ walkBack a (wholeAt q t at) ∷ map (walkBack a) (wholesAt q t (at + q) m)
+  unfolding wholesAt
+  backs-cut m e = rw e
+
+  backs-none : n ≡ 0 → map (walkBack a) (wholesAt q t at n) ≡ []
+  unfolding wholesAt
+  backs-none e = rw e
+
+-- a are the walked difference, and the cuts stand in t from `from` on, k of them
+pub record CutsLeft (a : Difference) (q : ℕ) (t : List ℕ) (from k : ℕ) (fresh have : Allowance) (at left i : ℕ) : Type 0 where
+  pub room : at + left * q ≤ length t
+  pub sum : have .left + have .spent < 2 ^ 32
+  pub few : i + left ≤ mostCuts + 1
+  pub walked : settle fresh (walkRegion (restored a (wholesAt q t from k))) ≡ settle have (walkRegion (restored a (wholesAt q t at left)))
+  pub stops : 1 + stop (fresh .left) (map (walkBack a) (wholesAt q t from k)) ≡ i + stop (have .left) (map (walkBack a) (wholesAt q t at left))
+
+pub cuts-begun : {a : Difference} {q : ℕ} {t : List ℕ} {from k : ℕ} {fresh : Allowance} → from + k * q ≤ length t → k ≤ mostCuts
+    → fresh .left + fresh .spent < 2 ^ 32 → CutsLeft a q t from k fresh fresh from k 1
+cuts-begun r f s = record { room = r; sum = s; few = omega arith; walked = refl; stops = refl }
+
+module _ {a : Difference} {q : ℕ} {t : List ℕ} {from k : ℕ} {fresh have : Allowance} {at left i : ℕ} (x : CutsLeft a q t from k fresh have at left i) where
+  -- no cut is left
+  pub cuts-ended : left ≤ 0
+      → (record { allowance = have; verdict = Covered; piece = [] } ≡ settle fresh (walkRegion (restored a (wholesAt q t from k))))
+      × (i ≡ 1 + stop (fresh .left) (map (walkBack a) (wholesAt q t from k)))
+  unfolding stop
+  cuts-ended l =
+      let z : left ≡ 0 = omega arith in
+      (restored-none a q t at left z have ∙ sym (x .walked), sym (x .stops ∙ rw (backs-none a q t at left z) (add-zero _)))
+
+  module _ (h : 0 < left) (d : Said) (e : d ≡ settle have (walkBack a (wholeAt q t at))) where
+    one : left ≡ suc (left - 1)
+    one = omega arith
+
+    -- what this cut gives back is covered: the others go on with what it left
+    pub cuts-turn : d .verdict ≡ Covered → CutsLeft a q t from k fresh (d .allowance) (at + q) (left - 1) (i + 1)
+    cuts-turn v =
+        record {
+          room = cuts.room at left (left - 1) q (length t) one (x .room) .1;
+          sum = omega (arith, x .sum, settle-keeps have _ d e);
+          few = omega (arith, x .few);
+          walked = x .walked ∙ ap (settle have) (restored-cut a q t at left (left - 1) one) ∙ said-on have _ _ d e v;
+          stops =
+              x .stops
+              ∙ rw (backs-cut a q t at left (left - 1) one, stop-covered have _ d e v (map (walkBack a) (wholesAt q t (at + q) (left - 1))))
+              (omega arith);
+        }
+
+    -- it is not: that is the answer
+    pub cuts-stop : (d .verdict ≡ Covered → ⊥)
+        → (d ≡ settle fresh (walkRegion (restored a (wholesAt q t from k)))) × (i ≡ 1 + stop (fresh .left) (map (walkBack a) (wholesAt q t from k)))
+    cuts-stop v = (
+      said-stop have _ _ d e v ∙ sym (x .walked ∙ ap (settle have) (restored-cut a q t at left (left - 1) one)),
+      sym (x .stops ∙ rw (backs-cut a q t at left (left - 1) one, stop-decided have _ d e v (map (walkBack a) (wholesAt q t (at + q) (left - 1)))) (add-zero _)),
+    )

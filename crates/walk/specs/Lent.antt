@@ -1,7 +1,6 @@
 -- Two records as the walk of an inclusion has them: their cubes are whole bytes.
 --   Pair q s f t g     == records with the fronts f in s and g in t stand there, their cubes of q bytes each
 --   lessCuts q s f t g == the cuts of the first piece of "s less t": those of s, and then the base of t
---   walkBack a c       == the walk of what a cut c of a subtracted difference gives back of a
 use Prim.Native.Nat.{ℕ, _≤_}
 use mathlib.Core.List.{List, [], _∷_, _++_}
 use mathlib.Core.Bool.{cond}
@@ -19,8 +18,3 @@ pub record Pair (q : ℕ) (s : List ℕ) (f : Front) (t : List ℕ) (g : Front) 
 
 abbrev pub lessCuts : ℕ → List ℕ → Front → List ℕ → Front → List Cube
 lessCuts q s f t g = wholeDifference q s f .cuts ++ (wholeDifference q t g .base ∷ [])
-
-unfoldable pub walkBack : Difference → Cube → Found
-walkBack a c =
-    let back = walk (less (meet (a .base) c) (a .cuts)) in
-    cond (shares (a .base) c) back (record { pieces = 0; survivor = nothing })

@@ -1,16 +1,12 @@
--- What a call tells of the outcome of a walk.
---   toldOf w v n bs    == the verdict v with n pieces spent, and the header of w positions that the piece bs shows where it survives
-use Prim.Native.Nat.{ℕ}
-use mathlib.Core.List.{List}
+-- What a call tells of how its walks ended.
+--   toldOf w x         == of headers of w positions: the decision of the outcome, with the index of what decided, and the header that its piece shows
+--                         where it survives
 use lib.ListN.{take}
-use Rattle.model.specs.Cube.{shown}
-use Rattle.answer.specs.Answer.{counted, showing}
-use Rattle.format.specs.Bytes.{codes, headerLen, writeHeader}
-use Rattle.format.specs.Told.{Told, silent}
-use Rattle.visits.specs.declared.allowance.Verdict.{Verdict}
-use Rattle.visits.specs.declared.allowance.Verdict.the-variants.{Covered, Survives, Undecided}
+use Prim.Native.Nat.{ℕ}
+use Rattle.format.specs.Bytes.{codes}
+use Rattle.format.specs.Told.{Told, deciding}
+use Rattle.visits.specs.Settle.{decisionOf}
+use Rattle.walk.specs.declared.stop.Stop.{Stop}
 
-abbrev pub toldOf : ℕ → Verdict → ℕ → List ℕ → Told
-toldOf w Covered n bs = silent (counted 1 n)
-toldOf w Survives n bs = record { answer = showing n (headerLen w); bytes = writeHeader (shown (take w (codes bs))) }
-toldOf w Undecided n bs = silent (counted 3 n)
+abbrev pub toldOf : ℕ → Stop → Told
+toldOf w x = deciding w (decisionOf (x .outcome .verdict) (x .outcome .allowance .spent) (x .index) (take w (codes (x .outcome .piece))))

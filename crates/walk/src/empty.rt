@@ -1,8 +1,9 @@
 // Whether no header is in a difference or a region, or one that is.
 ghost use mathlib.Core.Path.{_≡_};
 ghost use Prim.Native.Nat.{_+_, _^_, _≤_, _<_};
+ghost use mathlib.Core.List.{map};
 ghost use lib.ListN.{length};
-ghost use Rattle.model.specs.Walk.{walkRegion};
+ghost use Rattle.model.specs.Walk.{walk, walkRegion, stop};
 ghost use Rattle.model.specs.Padding.{padFound};
 ghost use Rattle.format.specs.Bytes.{cubeLen, unused};
 ghost use Rattle.format.specs.Records.{widthOf};
@@ -11,9 +12,10 @@ ghost use Rattle.format.specs.Told.{over};
 ghost use Rattle.format.specs.Calls.{diff-empty, region-empty};
 ghost use Rattle.visits.specs.Settle.{settle, says};
 use super::record::walk_record;
+use super::stop::Stop;
+use super::stop::all_covered;
 use super::told::tell;
 use answer::Answer;
-use cube::WIDEST_CUBE;
 use cube::cube_len;
 use cube::header_len;
 use region::check_file;
@@ -21,7 +23,6 @@ use region::first_at;
 use region::front_at;
 use region::one_refusal;
 use visits::Allowance;
-use visits::Outcome;
 use visits::Verdict;
 
 // Whether no header is in the difference of a record: yes; no, and a header that is in is written over the front of out; or undecided within the
@@ -35,36 +36,42 @@ pub fn diff_empty(w: usize, s: &[u8], allowance: u32, out: &mut [u8]) -> Answer
         return refusal;
     }
     if out.len() < header_len(w) {
-        return Answer::said(22);
+        return Answer::refused(22);
     }
     let start = Allowance {
         left: allowance,
         spent: 0,
     };
-    tell(walk_record(cube_len(w), s, front_at(s, 0), start), w, out)
+    let outcome = walk_record(cube_len(w), s, front_at(s, 0), start);
+    tell(Stop { outcome, index: 0 }, w, out)
 }
 
 // Walks the differences of an accepted file, whose cubes have q bytes, one after another on one allowance, up to the first that is not covered.
-fn walk_file(q: usize, s: &[u8], a: Allowance) -> Outcome
+fn walk_file(q: usize, s: &[u8], a: Allowance) -> Stop
     requires { ⌜ (q ≡ cubeLen (widthOf (now s))) × (faultNumber (readFile (now s)) ≡ 0) × (a .left + a .spent < 2 ^ 32) ⌝ }
-    ensures { λ r. ⌜ says q r ≡ settle a (padFound (unused (widthOf (now (s .entry)))) (walkRegion (regionIn (now (s .entry))))) ⌝ }
+    ensures outcome { λ r. ⌜ says q (r .outcome) ≡ settle a (padFound (unused (widthOf (now (s .entry)))) (walkRegion (regionIn (now (s .entry))))) ⌝ }
+    ensures index { λ r. ⌜ r .index ≡ stop (a .left) (map walk (regionIn (now (s .entry)))) ⌝ }
 {
     let mut have = a;
     let mut at = first_at(s);
+    let mut i: usize = 0;
     while at < s.len() {
         let front = front_at(s, at);
         let v = walk_record(q, s, front, have);
         let k = v.verdict;
         let Verdict::Covered = k else {
-            return v;
+            return Stop {
+                outcome: v,
+                index: i,
+            };
         };
         have = v.allowance;
         at = front.next;
+        i += 1;
     }
-    Outcome {
-        allowance: have,
-        verdict: Verdict::Covered,
-        piece: [255u8; WIDEST_CUBE],
+    Stop {
+        outcome: all_covered(have),
+        index: i,
     }
 }
 
@@ -80,7 +87,7 @@ pub fn region_empty(s: &[u8], allowance: u32, out: &mut [u8]) -> Answer
     }
     let w = file.width;
     if out.len() < header_len(w) {
-        return Answer::said(22);
+        return Answer::refused(22);
     }
     let start = Allowance {
         left: allowance,

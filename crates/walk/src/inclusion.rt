@@ -1,18 +1,21 @@
 // Whether each header of one difference is in another, or one that is not.
 ghost use mathlib.Core.Path.{_≡_};
 ghost use Prim.Native.Nat.{_+_, _^_, _≤_, _<_};
+ghost use mathlib.Core.List.{map};
 ghost use lib.ListN.{length};
 ghost use Rattle.model.specs.Cube.{meet};
 ghost use Rattle.model.specs.Algebra.{restored};
-ghost use Rattle.model.specs.Walk.{visit, walkRegion, walkInclusion};
+ghost use Rattle.model.specs.Walk.{visit, walkRegion, walkInclusion, walkBack, walksLess, stop};
 ghost use Rattle.format.specs.Limits.{widestCube};
 ghost use Rattle.format.specs.Told.{over};
 ghost use Rattle.format.specs.Calls.{diff-in};
 ghost use Rattle.cube.specs.Whole.{cubeOf, wholeAt, wholesAt};
 ghost use Rattle.region.specs.Front.{Stands, wholeDifference};
-ghost use Rattle.walk.specs.Lent.{Pair, lessCuts, walkBack};
+ghost use Rattle.walk.specs.Lent.{Pair, lessCuts};
 ghost use Rattle.visits.specs.Settle.{settle, says};
 use super::record::load;
+use super::stop::Stop;
+use super::stop::all_covered;
 use super::told::tell;
 use answer::Answer;
 use cube::WIDEST_CUBE;
@@ -89,40 +92,50 @@ fn walk_back(q: usize, s: &[u8], f: Front, t: &[u8], at: usize, a: Allowance) ->
     walk(q, piece, s, cuts, f.cuts, a)
 }
 
-// Walks what the cuts of t give back of s, one after another on one allowance, up to the first that is not covered.
-fn walk_restored(q: usize, s: &[u8], f: Front, t: &[u8], g: Front, a: Allowance) -> Outcome
+// Walks what the cuts of t give back of s, one after another on one allowance, up to the first that is not covered. The first piece, which is
+// walked before, is counted.
+fn walk_restored(q: usize, s: &[u8], f: Front, t: &[u8], g: Front, a: Allowance) -> Stop
     requires { ⌜ Pair q (now s) f (now t) g × (a .left + a .spent < 2 ^ 32) ⌝ }
-    ensures { λ r. ⌜ says q r ≡ settle a (walkRegion (restored (wholeDifference q (now (s .entry)) f) (wholeDifference q (now (t .entry)) g .cuts))) ⌝ }
+    ensures outcome { λ r. ⌜ says q (r .outcome) ≡ settle a (walkRegion (restored (wholeDifference q (now (s .entry)) f) (wholeDifference q (now (t .entry)) g .cuts))) ⌝ }
+    ensures index { λ r. ⌜ r .index ≡ 1 + stop (a .left) (map (walkBack (wholeDifference q (now (s .entry)) f)) (wholeDifference q (now (t .entry)) g .cuts)) ⌝ }
 {
     let mut have = a;
     let mut at = g.base + q;
     let mut left = g.cuts;
+    let mut i: usize = 1;
     while 0 < left {
         let v = walk_back(q, s, f, t, at, have);
         let k = v.verdict;
         let Verdict::Covered = k else {
-            return v;
+            return Stop {
+                outcome: v,
+                index: i,
+            };
         };
         have = v.allowance;
         at += q;
         left -= 1;
+        i += 1;
     }
-    Outcome {
-        allowance: have,
-        verdict: Verdict::Covered,
-        piece: [255u8; WIDEST_CUBE],
+    Stop {
+        outcome: all_covered(have),
+        index: i,
     }
 }
 
 // Walks the untidied pieces of s less t in their order on one allowance, up to the first that is not covered.
-fn walk_less(q: usize, s: &[u8], f: Front, t: &[u8], g: Front, a: Allowance) -> Outcome
+fn walk_less(q: usize, s: &[u8], f: Front, t: &[u8], g: Front, a: Allowance) -> Stop
     requires { ⌜ Pair q (now s) f (now t) g × (a .left + a .spent < 2 ^ 32) ⌝ }
-    ensures { λ r. ⌜ says q r ≡ settle a (walkInclusion (wholeDifference q (now (s .entry)) f) (wholeDifference q (now (t .entry)) g)) ⌝ }
+    ensures outcome { λ r. ⌜ says q (r .outcome) ≡ settle a (walkInclusion (wholeDifference q (now (s .entry)) f) (wholeDifference q (now (t .entry)) g)) ⌝ }
+    ensures index { λ r. ⌜ r .index ≡ stop (a .left) (walksLess (wholeDifference q (now (s .entry)) f) (wholeDifference q (now (t .entry)) g)) ⌝ }
 {
     let v = walk_first(q, s, f, t, g, a);
     let k = v.verdict;
     let Verdict::Covered = k else {
-        return v;
+        return Stop {
+            outcome: v,
+            index: 0,
+        };
     };
     walk_restored(q, s, f, t, g, v.allowance)
 }
@@ -138,7 +151,7 @@ pub fn diff_in(w: usize, s: &[u8], t: &[u8], allowance: u32, out: &mut [u8]) -> 
         return refusal;
     }
     if out.len() < header_len(w) {
-        return Answer::said(22);
+        return Answer::refused(22);
     }
     let start = Allowance {
         left: allowance,

@@ -3,6 +3,7 @@ mod ceilings;
 mod empty;
 mod inclusion;
 mod record;
+mod stop;
 mod told;
 
 pub use ceilings::ceiling;

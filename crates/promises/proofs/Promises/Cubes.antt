@@ -16,7 +16,7 @@ use lib.ListN.{length}
 use denote.Ref.{RefT, now, ptr}
 use Rattle.model.specs.Cube.{Header, holds, meet, shares, within}
 use Rattle.model.proofs.Cubes.{length-meet}
-use Rattle.answer.specs.Answer.{said}
+use Rattle.answer.specs.Answer.{no}
 use Rattle.format.specs.Rows.{last, row, so, passes, outcome}
 use Rattle.format.specs.Bytes.{cubeLen, readCube, writeCube}
 use Rattle.format.specs.Told.{Told, silent, wide, lentCube, writing}
@@ -63,7 +63,7 @@ writing-tells bs e room = by-table 1 _ (omega arith) (omega arith) (omega arith)
 
 -- where the cubes share a header
 meeting-tells : (t : Bool) (bs : List ℕ) {size : ℕ} → length bs ≡ size → (room : ℕ)
-    → Tells (t ≡ true → size ≤ room) (cond t (writes bs) (silent (said 2))) (outcome (row (so (not t)) (silent (said 2)) (writing bs room)))
+    → Tells (t ≡ true → size ≤ room) (cond t (writes bs) (silent no)) (outcome (row (so (not t)) (silent no) (writing bs room)))
 unfolding outcome passes
 meeting-tells true bs e room = let a = writing-tells bs e room in record { accepted = λ l h. a .accepted l; told = λ f. a .told (f refl) }
 meeting-tells false bs e room = record { accepted = λ l h. absurd (true≢false (sym h)); told = λ f. refl }
@@ -75,7 +75,7 @@ module _ (w : ℕ) (a b : List ℕ) where
   pub cube-meet-answered : (room : ℕ)
       → let c = readCube w a in
       let d = readCube w b in
-      Tells (Cubes w a b × (shares c d ≡ true → cubeLen w ≤ room)) (cond (shares c d) (writes (writeCube (meet c d))) (silent (said 2)))
+      Tells (Cubes w a b × (shares c d ≡ true → cubeLen w ≤ room)) (cond (shares c d) (writes (writeCube (meet c d))) (silent no))
       (cube-meet w a b room)
   unfolding cube-meet outcome
   cube-meet-answered room =
@@ -163,7 +163,7 @@ which : (x y : Bool) → outcome (row (so x) first (row (so y) second (last neit
 unfolding outcome passes
 which x y = refl
 
-some-held : (x y : Bool) → cond x first (cond y second neither) ≡ neither → _≡_ {A = ℕ} (cond (x || y) 1 2) 1 → ⊥
+some-held : (x y : Bool) → cond x first (cond y second neither) ≡ neither → yesNo (x || y) .answer .number ≡ 1 → ⊥
 some-held true y e n = let z : _≡_ {A = ℕ} 0 1 = cc in omega arith
 some-held false true e n = let z : _≡_ {A = ℕ} 0 1 = cc in omega arith
 some-held false false e n = omega arith

@@ -7,7 +7,7 @@ use mathlib.Core.Path.{_≡_, sym}
 use mathlib.Core.List.{List}
 use lib.ListN.{length}
 use denote.Ref.{now}
-use Rattle.answer.specs.Answer.{said}
+use Rattle.answer.specs.Answer.{refused}
 use Rattle.format.specs.Limits.{mostInput}
 use Rattle.format.specs.Told.{silent}
 use Rattle.format.specs.Calls.{region-member, region-empty, question}
@@ -39,7 +39,7 @@ permit-empty-agrees = region-empty-agrees
 
 -- The question program: "25: the program's input is above 65,536 bytes", "reads a region file on standard input with allowance 1,000,000".
 module _ (s : List ℕ) where
-  pub question-long : mostInput < length s → question s ≡ silent (said 25)
+  pub question-long : mostInput < length s → question s ≡ silent (refused 25)
   unfolding question
   question-long h = sym (reached 0 _ h)
 

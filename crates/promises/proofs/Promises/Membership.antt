@@ -8,6 +8,7 @@ use mathlib.Core.List.{List}
 use mathlib.Core.Bool.{true, false}
 use denote.Ref.{now}
 use Rattle.model.specs.Difference.{inDifference, inRegion}
+use Rattle.model.proofs.Holding.{held-in}
 use Rattle.format.specs.Rows.{last, outcome}
 use Rattle.format.specs.Bytes.{readHeader}
 use Rattle.format.specs.Records.{widthOf, differenceAt}
@@ -66,7 +67,8 @@ module _ (s h : List ℕ) where
       let w = widthOf s in
       Tells (Accepted s × Bits w w h) (yesNo (inRegion (regionIn s) (readHeader w h))) (region-member s h)
   unfolding region-member outcome
-  region-member-answered = yes-no _ (and-then (file-tells s 1 _) (λ l. header-tells (widthOf s) h _))
+  region-member-answered =
+      rw (← held-in (regionIn s) (readHeader (widthOf s) h)) (yes-no _ (and-then (file-tells s 1 _) (λ l. header-tells (widthOf s) h _)))
 
   pub region-member-kept : Kept 0 (region-member s h)
   unfolding region-member

@@ -14,7 +14,7 @@ use mathlib.Core.List.{List, _++_, map}
 use mathlib.Core.Bool.{false}
 use lib.ListN.{length, replicate}
 use denote.Ref.{RefT, now}
-use Rattle.answer.specs.Answer.{said, fault, placed}
+use Rattle.answer.specs.Answer.{no, fault, placed}
 use Rattle.format.specs.Records.{nextAt, widthOf, widthFault, differenceFault}
 use Rattle.format.specs.Files.{refused, whole, readFile}
 use Rattle.format.specs.Calls as calls
@@ -65,7 +65,7 @@ module _ (s : List ℕ) (place : ℕ) where
       let r = record-of false (widthOf s) 0 s (startOf s place) f in
       sym (reached 3 _ (w, (λ e. omega arith, (f, tt))))
 
-  pub read-on-last : widthFault s ≡ 0 → startOf s place ≡ length s → read-on s place ≡ stay (said 2) place
+  pub read-on-last : widthFault s ≡ 0 → startOf s place ≡ length s → read-on s place ≡ stay no place
   unfolding read-on
   read-on-last w e = sym (reached 1 _ (w, e))
 
@@ -94,7 +94,7 @@ read-on-first = first-six
 -- before the refused record, and then that refusal for ever. "Records are not counted, so 19 is not given": a file that is refused with 19 is read on
 -- past its 256th difference.
 pub accepted-steps : (s : List ℕ) {os : List ℕ} → readFile s ≡ whole os → (m : ℕ)
-    → answers (length os + m) s 0 ≡ map placed os ++ replicate m (said 2)
+    → answers (length os + m) s 0 ≡ map placed os ++ replicate m no
 accepted-steps = Stepping.accepted-steps
 
 pub passed-steps : (s : List ℕ) {f at : ℕ} → readFile s ≡ refused f at → answers (length (recordsBefore s at)) s 0 ≡ map placed (recordsBefore s at)

@@ -11,7 +11,7 @@ use mathlib.Core.List.{List, []}
 use lib.ListN.{length, getD, length-map}
 use denote.Ref.{RefT, now}
 use Rattle.model.specs.Difference.{Difference, less}
-use Rattle.answer.specs.Answer.{said, fault}
+use Rattle.answer.specs.Answer.{yes, refused, fault}
 use Rattle.format.specs.Records.{countAt, widthOf, differenceAt}
 use Rattle.format.specs.Files.{readFile, faultNumber, faultOffset, offsets, regionIn}
 use Rattle.format.specs.Calls.{Viewed, view, unseen}
@@ -57,16 +57,16 @@ module _ (s : List ℕ) (d i : ℕ) where
       let (_, found) = listed-at (file-of s e .list) d h in
       ap (λ (x : Difference). length (x .cuts)) this ∙ cuts-count found
 
-  pub view-yes : Indexed s d i → view s d i .answer ≡ said 1
+  pub view-yes : Indexed s d i → view s d i .answer ≡ yes
   unfolding view
   view-yes x =
       let l : d < length (offsets (readFile s)) = omega (arith, length-map (offsets (readFile s)) (differenceAt (widthOf s) s)) in
       ap (λ (v : Viewed). v .answer) (sym (reached 3 _ (x .file, (omega arith, (omega (arith, cuts-at (x .file) l), tt)))))
 
-  pub view-23 : Accepted s → (Indexed s d i → ⊥) → view s d i ≡ unseen (said 23)
+  pub view-23 : Accepted s → (Indexed s d i → ⊥) → view s d i ≡ unseen (refused 23)
   unfolding view
   view-23 e f =
-      each (λ v. v ≡ unseen (said 23)) _ (
+      each (λ v. v ≡ unseen (refused 23)) _ (
         λ h. absurd (h e),
         λ a. (
           λ h. refl,

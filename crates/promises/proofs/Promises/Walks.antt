@@ -8,14 +8,14 @@
 use Prim.Native.Nat.{ℕ, _≤_}
 use native.Mathlib.Omega.{arith}
 use mathlib.Core.Path.{_≡_}
-use mathlib.Core.List.{List}
+use mathlib.Core.List.{List, map}
 use mathlib.Core.Bool.{true, not, _&&_}
 use lib.ListN.{length}
 use denote.Ref.{now}
 use Rattle.model.specs.Cube.{Header}
 use Rattle.model.specs.Difference.{inDifference, inRegion}
 use Rattle.model.specs.Algebra.{subtraction}
-use Rattle.model.specs.Walk.{walk, walkRegion, walkInclusion, decide}
+use Rattle.model.specs.Walk.{walk, walkRegion, walkInclusion, walksLess, stop, decide}
 use Rattle.model.specs.Ceiling.{ceiling, mostPieces, capped}
 use Rattle.model.proofs.Bools.{less-none, none-less}
 use Rattle.answer.specs.Answer.{counted}
@@ -57,21 +57,21 @@ module _ (w : ℕ) (s : List ℕ) (n : ℕ) where
   diff-empty-agrees old = agree _ _
 
   pub diff-empty-answered : (room : ℕ)
-      → Tells (Lent w s × (headerLen w ≤ room)) (deciding w (decide n (walk (differenceAt w s 0)))) (diff-empty w s n room)
+      → Tells (Lent w s × (headerLen w ≤ room)) (deciding w (decide n 0 (walk (differenceAt w s 0)))) (diff-empty w s n room)
   unfolding diff-empty outcome
-  diff-empty-answered room = and-then (lent-tells w s _) (λ l. walking-tells w n room _)
+  diff-empty-answered room = and-then (lent-tells w s _) (λ l. walking-tells w n room _ _)
 
   pub diff-empty-decides : (room : ℕ)
       → let d = differenceAt w s 0 in
       Decides w n (inDifference d) (walk d) (Lent w s × (headerLen w ≤ room)) (diff-empty w s n room)
   diff-empty-decides room =
-      decides w n _ (walk (differenceAt w s 0)) (diff-empty-answered room) (empty-yes w s n room) (empty-yes-when w s n room) (empty-no w s n room)
+      decides w n 0 _ (walk (differenceAt w s 0)) (diff-empty-answered room) (empty-yes w s n room) (empty-yes-when w s n room) (empty-no w s n room)
       (empty-undecided w s n room) (empty-undecided-when w s n room) (empty-count w s n room)
 
   pub diff-empty-kept : (room : ℕ) → Kept room (diff-empty w s n room)
   unfolding diff-empty
   diff-empty-kept room =
-      let d = decide n (walk (differenceAt w s 0)) in
+      let d = decide n 0 (walk (differenceAt w s 0)) in
       walk-kept _ (omega arith) (λ some narrow sound fits. deciding-shows w d) (diff-empty-decides room) (λ (lent, fits). fits)
 
 -- "the count is that walk's and never above the ceiling"
@@ -94,29 +94,30 @@ module _ (s : List ℕ) (n : ℕ) where
 
   pub region-empty-answered : (room : ℕ)
       → let w = widthOf s in
-      Tells (Accepted s × (headerLen w ≤ room)) (deciding w (decide n (walkRegion (regionIn s)))) (region-empty s n room)
+      let r = regionIn s in
+      Tells (Accepted s × (headerLen w ≤ room)) (deciding w (decide n (stop n (map walk r)) (walkRegion r))) (region-empty s n room)
   unfolding region-empty outcome
-  region-empty-answered room = and-then (file-tells s 1 _) (λ l. walking-tells (widthOf s) n room _)
+  region-empty-answered room = and-then (file-tells s 1 _) (λ l. walking-tells (widthOf s) n room _ _)
 
   pub region-empty-decides : (room : ℕ)
       → let w = widthOf s in
       let r = regionIn s in
       Decides w n (inRegion r) (walkRegion r) (Accepted s × (headerLen w ≤ room)) (region-empty s n room)
   region-empty-decides room =
-      decides (widthOf s) n _ (walkRegion (regionIn s)) (region-empty-answered room) (region-yes s n room) (region-yes-when s n room) (region-no s n room)
+      decides (widthOf s) n _ _ (walkRegion (regionIn s)) (region-empty-answered room) (region-yes s n room) (region-yes-when s n room) (region-no s n room)
       (region-undecided s n room) (region-undecided-when s n room) (region-count s n room)
 
   pub region-empty-kept : (room : ℕ) → Kept room (region-empty s n room)
   unfolding region-empty
   region-empty-kept room =
-      let d = decide n (walkRegion (regionIn s)) in
+      let d = decide n (stop n (map walk (regionIn s))) (walkRegion (regionIn s)) in
       walk-kept _ (omega arith) (λ sound fits. deciding-shows (widthOf s) d) (region-empty-decides room) (λ (accepted, fits). fits)
 
   pub region-count-at-most-ceilings : (room : ℕ) → region-empty s n room .answer .count ≤ ceilings (regionIn s)
   unfolding region-empty
   region-count-at-most-ceilings room =
       let r = regionIn s in
-      at-most (ceilings r) _ (omega arith) (λ sound fits. omega (arith, count-at-most-pieces (widthOf s) n (walkRegion r), pieces-at-most-ceilings r))
+      at-most (ceilings r) _ (omega arith) (λ sound fits. omega (arith, count-at-most-pieces (widthOf s) n (stop n (map walk r)) (walkRegion r), pieces-at-most-ceilings r))
 
 -- DIFF_IN. "yes is inclusion, no shows a header in A and outside B"
 pub diff-in-promise : Promise diff-in-call.Kinds.ps diff-in-call.Kinds.r diff-in-call.Reads.Asked diff-in-call.Reads.Learnt
@@ -128,10 +129,12 @@ module _ (w : ℕ) (s t : List ℕ) (n : ℕ) where
   diff-in-agrees old = agree _ _
 
   pub diff-in-answered : (room : ℕ)
-      → let v = walkInclusion (differenceAt w s 0) (differenceAt w t 0) in
-      Tells ((Lent w s × Lent w t) × (headerLen w ≤ room)) (deciding w (decide n v)) (diff-in w s t n room)
+      → let a = differenceAt w s 0 in
+      let b = differenceAt w t 0 in
+      let d = decide n (stop n (walksLess a b)) (walkInclusion a b) in
+      Tells ((Lent w s × Lent w t) × (headerLen w ≤ room)) (deciding w d) (diff-in w s t n room)
   unfolding diff-in outcome
-  diff-in-answered room = and-then (two-tell w s t _) (λ l. walking-tells w n room _)
+  diff-in-answered room = and-then (two-tell w s t _) (λ l. walking-tells w n room _ _)
 
   pub diff-in-decides : (room : ℕ)
       → let a = differenceAt w s 0 in
@@ -139,7 +142,7 @@ module _ (w : ℕ) (s t : List ℕ) (n : ℕ) where
       Decides w n (λ h. inDifference a h && not (inDifference b h)) (walkInclusion a b) ((Lent w s × Lent w t) × (headerLen w ≤ room))
       (diff-in w s t n room)
   diff-in-decides room =
-      decides w n _ (walkInclusion (differenceAt w s 0) (differenceAt w t 0)) (diff-in-answered room)
+      decides w n _ _ (walkInclusion (differenceAt w s 0) (differenceAt w t 0)) (diff-in-answered room)
       (λ e. let ((first, second, fits), paid, within) = in-yes w s t n room e in (((first, second), fits), paid, λ h. none-less _ _ (within h)))
       (λ ((first, second), fits) paid none. in-yes-when w s t n room (first, second, fits) paid (λ h l. less-none _ _ (none h l)))
       (λ e. let ((first, second, fits), paid, shown) = in-no w s t n room e in (((first, second), fits), paid, shown))
@@ -150,7 +153,9 @@ module _ (w : ℕ) (s t : List ℕ) (n : ℕ) where
   pub diff-in-kept : (room : ℕ) → Kept room (diff-in w s t n room)
   unfolding diff-in
   diff-in-kept room =
-      let d = decide n (walkInclusion (differenceAt w s 0) (differenceAt w t 0)) in
+      let a = differenceAt w s 0 in
+      let b = differenceAt w t 0 in
+      let d = decide n (stop n (walksLess a b)) (walkInclusion a b) in
       walk-kept _ (omega arith) (λ some narrow first second fits. deciding-shows w d) (diff-in-decides room) (λ (lent, fits). fits)
 
   pub diff-in-means : (room : ℕ) → diff-in w s t n room .answer .number ≡ 1 → (h : Header)
@@ -161,9 +166,11 @@ module _ (w : ℕ) (s t : List ℕ) (n : ℕ) where
       → diff-in w s t n room .answer .count ≤ ceilings (subtraction (differenceAt w s 0) (differenceAt w t 0))
   unfolding diff-in
   in-count-at-most-ceilings room =
-      let r = subtraction (differenceAt w s 0) (differenceAt w t 0) in
+      let a = differenceAt w s 0 in
+      let b = differenceAt w t 0 in
+      let r = subtraction a b in
       at-most (ceilings r) _ (omega arith)
-      (λ some narrow first second fits. omega (arith, count-at-most-pieces w n (walkRegion r), pieces-at-most-ceilings r))
+      (λ some narrow first second fits. omega (arith, count-at-most-pieces w n (stop n (walksLess a b)) (walkRegion r), pieces-at-most-ceilings r))
 
 -- CEILING. "The ceiling of demand 3 can be asked for one difference"; "0: written, or the ceiling, which is then the count"
 pub ceiling-promise : Promise ceiling-call.Kinds.ps ceiling-call.Kinds.r ceiling-call.Reads.Asked ceiling-call.Reads.Learnt

@@ -11,14 +11,14 @@ use Rattle.format.proofs.Reached.{reached}
 use Rattle.question.proofs.ask.Statement.{statement}
 use Rattle.question.proofs.ask.Tie as tie
 
-said-requires : tie.Need-said-requires
-said-requires c κs = search needs
+refused-requires : tie.Need-refused-requires
+refused-requires c κs = search needs
 
 returns : tie.Need-returns
 unfolding question
 returns c =
     let x = c .before .before .before .before .args in
-    (c .said .ensures ∙ ap (λ (t : Told). t .answer) (reached 0 _ (c .before .if1 .taken)), ap (λ (t : Told). over (x .header .now) (t .bytes)) (reached 0 _ (c .before .if1 .taken)))
+    (c .refused .ensures ∙ ap (λ (t : Told). t .answer) (reached 0 _ (c .before .if1 .taken)), ap (λ (t : Told). over (x .header .now) (t .bytes)) (reached 0 _ (c .before .if1 .taken)))
 
 region-empty-requires : tie.Need-region-empty-requires
 region-empty-requires c κs = search needs
@@ -39,4 +39,4 @@ returns-2 c =
     (r .ensures .0 ∙ ap (λ (t : Told). t .answer) t, r .ensures .1 ∙ ap (λ (t : Told). over (x .header .now) (t .bytes)) t)
 
 pub ask-spec : {M : Type 1} → statement M
-ask-spec = tie.close (tie.spec said-requires returns region-empty-requires same-length returns-2)
+ask-spec = tie.close (tie.spec refused-requires returns region-empty-requires same-length returns-2)

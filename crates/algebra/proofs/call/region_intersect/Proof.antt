@@ -46,8 +46,8 @@ returns-2 c =
     let g = c .before .before .before in
     silent-out (c .fault2 .ensures) (file-fault (g .check-file2 .ensures) (c .before .if2 .taken) 2 _ ∙ file-lent (first (g .before)) 1 _)
 
-said-requires : tie.Need-said-requires
-said-requires c κs = search needs
+refused-requires : tie.Need-refused-requires
+refused-requires c κs = search needs
 
 returns-3 : tie.Need-returns-3
 unfolding region-intersect
@@ -57,7 +57,7 @@ returns-3 c =
     let i = g .before in
     let f = i .before .before in
     let n = rw (f .check-file .ensures .width, g .check-file2 .ensures .width) at (c .before .if3 .taken) in
-    silent-out (c .said .ensures) (reached 0 _ n ∙ file-lent (second j) 2 _ ∙ file-lent (first i) 1 _)
+    silent-out (c .refused .ensures) (reached 0 _ n ∙ file-lent (second j) 2 _ ∙ file-lent (first i) 1 _)
 
 first-at-requires : tie.Need-first-at-requires
 first-at-requires c κs = search needs
@@ -99,7 +99,7 @@ region-intersect-spec =
     check-file-requires-2
     fault-requires-2
     returns-2
-    said-requires
+    refused-requires
     returns-3
     first-at-requires
     first-at-requires-2

@@ -46,8 +46,8 @@ part-run-end c = search needs
 run-requires : tie.Need-run-requires
 run-requires c κs = rw (c .before .cube-len .ensures) (c .before .before .before .before .before .pre .1)
 
-said-requires : tie.Need-said-requires
-said-requires c κs = search needs
+refused-requires : tie.Need-refused-requires
+refused-requires c κs = search needs
 
 same-length : tie.Need-same-length
 same-length c = search needs
@@ -55,10 +55,10 @@ same-length c = search needs
 returns : tie.Need-returns
 returns c =
     let d = c .before .before .before .before in
-    rw (← result-long (start d .args .w) _ (counted d) (c .before .if1 .taken)) (record { answer = c .said .ensures; buffer = same d })
+    rw (← result-long (start d .args .w) _ (counted d) (c .before .if1 .taken)) (record { answer = c .refused .ensures; buffer = same d })
 
-said-requires-2 : tie.Need-said-requires-2
-said-requires-2 c κs = search needs
+refused-requires-2 : tie.Need-refused-requires-2
+refused-requires-2 c κs = search needs
 
 same-length-2 : tie.Need-same-length-2
 same-length-2 c = search needs
@@ -67,13 +67,13 @@ returns-2 : tie.Need-returns-2
 returns-2 c =
     let d = c .before .before .before .before .before .before in
     rw (← result-many (start d .args .w) _ (counted d) (c .before .before .before .if1 .left) (c .before .if2 .taken))
-    (record { answer = c .said2 .ensures; buffer = same d })
+    (record { answer = c .refused2 .ensures; buffer = same d })
 
 add-size : tie.Need-add-size
 add-size c = search needs
 
-said-requires-3 : tie.Need-said-requires-3
-said-requires-3 c κs = search needs
+refused-requires-3 : tie.Need-refused-requires-3
+refused-requires-3 c κs = search needs
 
 same-length-3 : tie.Need-same-length-3
 same-length-3 c = search needs
@@ -84,7 +84,7 @@ returns-3 c =
     let i = j .before .before in
     let d = i .before .before .before in
     let short = rw (same d) at (c .before .if3 .taken) in
-    rw (← result-short (start d .args .w) _ (counted d) (i .if1 .left) (j .if2 .left) short) (record { answer = c .said3 .ensures; buffer = same d })
+    rw (← result-short (start d .args .w) _ (counted d) (i .if1 .left) (j .if2 .left) short) (record { answer = c .refused3 .ensures; buffer = same d })
 
 put-width-requires : tie.Need-put-width-requires
 put-width-requires c κs = search needs
@@ -140,14 +140,14 @@ write-region-spec =
     part-run-start
     part-run-end
     run-requires
-    said-requires
+    refused-requires
     same-length
     returns
-    said-requires-2
+    refused-requires-2
     same-length-2
     returns-2
     add-size
-    said-requires-3
+    refused-requires-3
     same-length-3
     returns-3
     put-width-requires

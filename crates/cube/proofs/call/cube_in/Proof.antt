@@ -17,23 +17,23 @@ returns c =
 lies-in-requires : tie.Need-lies-in-requires
 lies-in-requires c κs = search needs
 
-said-requires : tie.Need-said-requires
-said-requires c κs = search needs
+yes-requires : tie.Need-yes-requires
+yes-requires c κs = search needs
 
 returns-2 : tie.Need-returns-2
 returns-2 c =
     let s = c .before .before .before in
     let x = s .before .before .before .before .before .args in
-    c .said .ensures ∙ ap (λ (t : Told). t .answer) (in-yes (x .w) (x .a .now) (x .b .now) _ (s .before .before .pair-refusal .ensures) (s .if1 .left) (sym (c .before .before .lies-in .ensures) ∙ c .before .if2 .taken))
+    c .yes .ensures ∙ ap (λ (t : Told). t .answer) (in-yes (x .w) (x .a .now) (x .b .now) _ (s .before .before .pair-refusal .ensures) (s .if1 .left) (sym (c .before .before .lies-in .ensures) ∙ c .before .if2 .taken))
 
-said-requires-2 : tie.Need-said-requires-2
-said-requires-2 c κs = search needs
+no-requires : tie.Need-no-requires
+no-requires c κs = search needs
 
 returns-3 : tie.Need-returns-3
 returns-3 c =
     let s = c .before .before .before in
     let x = s .before .before .before .before .before .args in
-    c .said2 .ensures ∙ ap (λ (t : Told). t .answer) (in-no (x .w) (x .a .now) (x .b .now) _ (s .before .before .pair-refusal .ensures) (s .if1 .left) (sym (c .before .before .lies-in .ensures) ∙ c .before .if2 .left))
+    c .no .ensures ∙ ap (λ (t : Told). t .answer) (in-no (x .w) (x .a .now) (x .b .now) _ (s .before .before .pair-refusal .ensures) (s .if1 .left) (sym (c .before .before .lies-in .ensures) ∙ c .before .if2 .left))
 
 pub cube-in-spec : {M : Type 1} → statement M
 cube-in-spec =
@@ -42,7 +42,7 @@ cube-in-spec =
     pair-refusal-requires
     returns
     lies-in-requires
-    said-requires
+    yes-requires
     returns-2
-    said-requires-2
+    no-requires
     returns-3)

@@ -32,25 +32,25 @@ returns c =
 meets-requires : tie.Need-meets-requires
 meets-requires c κs = search needs
 
-said-requires : tie.Need-said-requires
-said-requires c κs = search needs
+no-requires : tie.Need-no-requires
+no-requires c κs = search needs
 
 returns-2 : tie.Need-returns-2
 returns-2 c =
     let s = c .before .before .before in
     let x = s .before .before .before .before .before .before .args in
-    silent-out (c .said .ensures)
+    silent-out (c .no .ensures)
     (meet-apart (x .w) (x .a .now) (x .b .now) _ (s .before .before .pair-refusal .ensures) (s .if1 .left) (length (x .out .now)) (sym (c .before .before .meets .ensures) ∙ not-true _ (c .before .if2 .taken)))
 
-said-requires-2 : tie.Need-said-requires-2
-said-requires-2 c κs = search needs
+refused-requires : tie.Need-refused-requires
+refused-requires c κs = search needs
 
 returns-3 : tie.Need-returns-3
 returns-3 c =
     let l = c .before .before in
     let s = l .before .before in
     let x = s .before .before .before .before .before .before .args in
-    silent-out (c .said2 .ensures)
+    silent-out (c .refused .ensures)
     (meet-short (x .w) (x .a .now) (x .b .now) _ (s .before .before .pair-refusal .ensures) (s .if1 .left) (bytes s) (sym (l .before .meets .ensures) ∙ not-false _ (l .if2 .left)) (length (x .out .now)) (c .before .if3 .taken))
 
 meet-into-requires : tie.Need-meet-into-requires
@@ -84,9 +84,9 @@ cube-meet-spec =
     pair-refusal-requires
     returns
     meets-requires
-    said-requires
+    no-requires
     returns-2
-    said-requires-2
+    refused-requires
     returns-3
     meet-into-requires
     wrote-requires

@@ -39,13 +39,13 @@ returns-3 c =
     c .fault2 .ensures ∙ ap (λ (n : ℕ). fault n 2 0) (c .before .before .lent-fault2 .ensures) ∙ reached 1 _ (omega arith)
     ∙ width-passed _ _ (d .before .before .width-refusal .ensures) (λ r. r) _ (d .if1 .left)
 
-said-requires : tie.Need-said-requires
-said-requires c κs = search needs
+accepted-requires : tie.Need-accepted-requires
+accepted-requires c κs = search needs
 
 returns-4 : tie.Need-returns-4
 returns-4 c =
     let d = c .before .before .before .before .before in
-    c .said .ensures ∙ reached 2 _ (omega arith) ∙ width-passed _ _ (d .before .before .width-refusal .ensures) (λ r. r) _ (d .if1 .left)
+    c .accepted .ensures ∙ reached 2 _ (omega arith) ∙ width-passed _ _ (d .before .before .width-refusal .ensures) (λ r. r) _ (d .if1 .left)
 
 pub pair-refusal-spec : {M : Type 1} → statement M
 pair-refusal-spec =
@@ -59,5 +59,5 @@ pair-refusal-spec =
     lent-fault-requires-2
     fault-requires-2
     returns-3
-    said-requires
+    accepted-requires
     returns-4)

@@ -17,36 +17,36 @@ returns c =
 lies-in-requires : tie.Need-lies-in-requires
 lies-in-requires c κs = search needs
 
-said-requires : tie.Need-said-requires
-said-requires c κs = search needs
+yes-requires : tie.Need-yes-requires
+yes-requires c κs = search needs
 
 returns-2 : tie.Need-returns-2
 returns-2 c =
     let s = c .before .before .before in
     let x = s .before .before .before .before .before .args in
-    c .said .ensures ∙ ap (λ (t : Told). t .answer) (number-first (x .w) (x .a .now) (x .b .now) _ (s .before .before .pair-refusal .ensures) (s .if1 .left) (sym (c .before .before .lies-in .ensures) ∙ c .before .if2 .taken))
+    c .yes .ensures ∙ ap (λ (t : Told). t .answer) (number-first (x .w) (x .a .now) (x .b .now) _ (s .before .before .pair-refusal .ensures) (s .if1 .left) (sym (c .before .before .lies-in .ensures) ∙ c .before .if2 .taken))
 
 lies-in-requires-2 : tie.Need-lies-in-requires-2
 lies-in-requires-2 c κs = search needs
 
-said-requires-2 : tie.Need-said-requires-2
-said-requires-2 c κs = search needs
+yes-requires-2 : tie.Need-yes-requires-2
+yes-requires-2 c κs = search needs
 
 returns-3 : tie.Need-returns-3
 returns-3 c =
     let s = c .before .before .before .before .before in
     let x = s .before .before .before .before .before .args in
-    c .said2 .ensures ∙ ap (λ (t : Told). t .answer) (number-second (x .w) (x .a .now) (x .b .now) _ (s .before .before .pair-refusal .ensures) (s .if1 .left) (sym (c .before .before .lies-in2 .ensures) ∙ c .before .if3 .taken))
+    c .yes2 .ensures ∙ ap (λ (t : Told). t .answer) (number-second (x .w) (x .a .now) (x .b .now) _ (s .before .before .pair-refusal .ensures) (s .if1 .left) (sym (c .before .before .lies-in2 .ensures) ∙ c .before .if3 .taken))
 
-said-requires-3 : tie.Need-said-requires-3
-said-requires-3 c κs = search needs
+no-requires : tie.Need-no-requires
+no-requires c κs = search needs
 
 returns-4 : tie.Need-returns-4
 returns-4 c =
     let l = c .before .before .before in
     let s = l .before .before in
     let x = s .before .before .before .before .before .args in
-    c .said3 .ensures
+    c .no .ensures
     ∙ ap (λ (t : Told). t .answer)
     (number-neither (x .w) (x .a .now) (x .b .now) _ (s .before .before .pair-refusal .ensures) (s .if1 .left) (sym (l .before .lies-in .ensures) ∙ l .if2 .left) (sym (c .before .before .lies-in2 .ensures) ∙ c .before .if3 .left))
 
@@ -57,10 +57,10 @@ wider-number-spec =
     pair-refusal-requires
     returns
     lies-in-requires
-    said-requires
+    yes-requires
     returns-2
     lies-in-requires-2
-    said-requires-2
+    yes-requires-2
     returns-3
-    said-requires-3
+    no-requires
     returns-4)

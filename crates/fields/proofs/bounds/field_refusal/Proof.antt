@@ -18,29 +18,29 @@ width-refusal-requires c κs = search needs
 returns : tie.Need-returns
 returns c = width-refused _ _ (c .before .before .width-refusal .ensures) (λ r. r) _ (c .if1 .taken)
 
-said-requires : tie.Need-said-requires
-said-requires c κs = search needs
+refused-requires : tie.Need-refused-requires
+refused-requires c κs = search needs
 
 returns-2 : tie.Need-returns-2
-returns-2 c = c .said .ensures ∙ reached 2 _ (omega (arith, accepted (c .before .before)))
+returns-2 c = c .refused .ensures ∙ reached 2 _ (omega (arith, accepted (c .before .before)))
 
-said-requires-2 : tie.Need-said-requires-2
-said-requires-2 c κs = search needs
+refused-requires-2 : tie.Need-refused-requires-2
+refused-requires-2 c κs = search needs
 
 returns-3 : tie.Need-returns-3
-returns-3 c = c .said2 .ensures ∙ reached 3 _ (omega (arith, accepted (c .before .before .before)))
+returns-3 c = c .refused2 .ensures ∙ reached 3 _ (omega (arith, accepted (c .before .before .before)))
 
-said-requires-3 : tie.Need-said-requires-3
-said-requires-3 c κs = search needs
+refused-requires-3 : tie.Need-refused-requires-3
+refused-requires-3 c κs = search needs
 
 returns-4 : tie.Need-returns-4
-returns-4 c = c .said3 .ensures ∙ reached 3 _ (omega (arith, accepted (c .before .before .before .before)))
+returns-4 c = c .refused3 .ensures ∙ reached 3 _ (omega (arith, accepted (c .before .before .before .before)))
 
-said-requires-4 : tie.Need-said-requires-4
-said-requires-4 c κs = search needs
+accepted-requires : tie.Need-accepted-requires
+accepted-requires c κs = search needs
 
 returns-5 : tie.Need-returns-5
-returns-5 c = c .said4 .ensures ∙ reached 4 _ (omega (arith, accepted (c .before .before .before .before)))
+returns-5 c = c .accepted .ensures ∙ reached 4 _ (omega (arith, accepted (c .before .before .before .before)))
 
 pub field-refusal-spec : {M : Type 1} → statement M
 field-refusal-spec =
@@ -48,11 +48,11 @@ field-refusal-spec =
     (tie.spec
     width-refusal-requires
     returns
-    said-requires
+    refused-requires
     returns-2
-    said-requires-2
+    refused-requires-2
     returns-3
-    said-requires-3
+    refused-requires-3
     returns-4
-    said-requires-4
+    accepted-requires
     returns-5)

@@ -70,8 +70,8 @@ returns-2 c =
 pairs-of-requires : tie.Need-pairs-of-requires
 pairs-of-requires c κs = search needs
 
-said-requires : tie.Need-said-requires
-said-requires c κs = search needs
+refused-requires : tie.Need-refused-requires
+refused-requires c κs = search needs
 
 returns-3 : tie.Need-returns-3
 unfolding equal-fields
@@ -79,7 +79,7 @@ returns-3 c =
     let s = c .before .before .before in
     let x = s .before .before .before .before .before .before .before .args in
     let cuts = equal-cuts (x .w) (x .p) (x .q) (x .n) in
-    silent-out (c .said .ensures)
+    silent-out (c .refused .ensures)
     (reached 5 _ (omega (arith, first (s .before .before .before), second s, cuts, c .before .before .pairs-of .ensures, c .before .if3 .taken)))
 
 mul-record-len : tie.Need-mul-record-len
@@ -91,11 +91,11 @@ cube-len-requires c κs = search needs
 record-len-requires : tie.Need-record-len-requires
 record-len-requires c κs = search needs
 
-said-requires-2 : tie.Need-said-requires-2
-said-requires-2 c κs = search needs
+refused-requires-2 : tie.Need-refused-requires-2
+refused-requires-2 c κs = search needs
 
 returns-4 : tie.Need-returns-4
-returns-4 c = let d = c .before .before in silent-out (c .said2 .ensures) (reached 0 _ (rw (size d) (c .before .if4 .taken)) ∙ goes-on d)
+returns-4 c = let d = c .before .before in silent-out (c .refused2 .ensures) (reached 0 _ (rw (size d) (c .before .if4 .taken)) ∙ goes-on d)
 
 put-equality-requires : tie.Need-put-equality-requires
 put-equality-requires c κs =
@@ -136,12 +136,12 @@ equal-fields-spec =
     field-refusal-requires-2
     returns-2
     pairs-of-requires
-    said-requires
+    refused-requires
     returns-3
     mul-record-len
     cube-len-requires
     record-len-requires
-    said-requires-2
+    refused-requires-2
     returns-4
     put-equality-requires
     wrote-requires

@@ -58,19 +58,19 @@ returns : tie.Need-returns
 unfolding prefix
 returns c = silent-out refl (field-refused _ _ _ _ (c .before .before .field-refusal .ensures) _ (c .if1 .taken))
 
-said-requires : tie.Need-said-requires
-said-requires c κs = search needs
+refused-requires : tie.Need-refused-requires
+refused-requires c κs = search needs
 
 returns-2 : tie.Need-returns-2
 unfolding prefix
-returns-2 c = silent-out (c .said .ensures) (reached 4 _ (omega (arith, field (c .before .before))))
+returns-2 c = silent-out (c .refused .ensures) (reached 4 _ (omega (arith, field (c .before .before))))
 
-said-requires-2 : tie.Need-said-requires-2
-said-requires-2 c κs = search needs
+refused-requires-2 : tie.Need-refused-requires-2
+refused-requires-2 c κs = search needs
 
 returns-3 : tie.Need-returns-3
 unfolding prefix
-returns-3 c = silent-out (c .said2 .ensures) (reached 5 _ (omega (arith, field (c .before .before .before), c .before .before .if2 .left)))
+returns-3 c = silent-out (c .refused2 .ensures) (reached 5 _ (omega (arith, field (c .before .before .before), c .before .before .if2 .left)))
 
 bits-refusal-requires : tie.Need-bits-refusal-requires
 bits-refusal-requires c κs = search needs
@@ -87,11 +87,11 @@ returns-4 c =
 cube-len-requires : tie.Need-cube-len-requires
 cube-len-requires c κs = search needs
 
-said-requires-3 : tie.Need-said-requires-3
-said-requires-3 c κs = search needs
+refused-requires-3 : tie.Need-refused-requires-3
+refused-requires-3 c κs = search needs
 
 returns-5 : tie.Need-returns-5
-returns-5 c = let d = c .before .before in silent-out (c .said3 .ensures) (reached 0 _ (rw (size d) (c .before .if5 .taken)) ∙ goes-on d)
+returns-5 c = let d = c .before .before in silent-out (c .refused3 .ensures) (reached 0 _ (rw (size d) (c .before .if5 .taken)) ∙ goes-on d)
 
 sub-put-prefix : tie.Need-sub-put-prefix
 sub-put-prefix c = search needs
@@ -140,14 +140,14 @@ prefix-spec =
     (tie.spec
     field-refusal-requires
     returns
-    said-requires
+    refused-requires
     returns-2
-    said-requires-2
+    refused-requires-2
     returns-3
     bits-refusal-requires
     returns-4
     cube-len-requires
-    said-requires-3
+    refused-requires-3
     returns-5
     sub-put-prefix
     part-put-prefix-start

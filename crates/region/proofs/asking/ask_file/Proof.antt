@@ -14,10 +14,10 @@ use Rattle.region.proofs.asking.ask_file.Statement.{statement}
 use Rattle.region.proofs.asking.ask_file.Tie as tie
 
 abbrev Inv-loop : tie.InvT-loop
-Inv-loop s h w wrong q at₀ n₀ held₀ at n held = Asking s h at n held
+Inv-loop s h w wrong q at₀ n₀ holder₀ at n holder = Asking s h at n holder
 
 abbrev μ-loop : tie.MeasureT-loop
-μ-loop s h w wrong q at₀ n₀ held₀ at n held = length s - at
+μ-loop s h w wrong q at₀ n₀ holder₀ at n holder = length s - at
 
 -- where a turn goes on, the record here is accepted
 sound : (c : tie.Else2 Inv-loop μ-loop)

@@ -15,27 +15,27 @@ returns c =
     let x = c .before .before .before .before .args in
     ap (λ (t : Told). t .answer) (bits-refused (x .w) (x .w) (x .h .now) _ (c .before .before .bits-refusal .ensures) (yesOr (x .held)) (c .if1 .taken))
 
-said-requires : tie.Need-said-requires
-said-requires c κs = search needs
+yes-requires : tie.Need-yes-requires
+yes-requires c κs = search needs
 
 returns-2 : tie.Need-returns-2
 returns-2 c =
     let b = c .before .before in
     let x = c .before .before .before .before .before .before .args in
-    c .said .ensures
+    c .yes .ensures
     ∙ ap (λ (t : Told). t .answer) (reached 0 (yesOr (x .held)) (c .before .if2 .taken) ∙ bits-passed (x .w) (x .w) (x .h .now) _ (b .before .before .bits-refusal .ensures) (yesOr (x .held)) (b .if1 .left))
 
-said-requires-2 : tie.Need-said-requires-2
-said-requires-2 c κs = search needs
+no-requires : tie.Need-no-requires
+no-requires c κs = search needs
 
 returns-3 : tie.Need-returns-3
 returns-3 c =
     let b = c .before .before in
     let x = c .before .before .before .before .before .before .args in
-    c .said2 .ensures
+    c .no .ensures
     ∙ ap (λ (t : Told). t .answer) (reached 1 (yesOr (x .held)) (c .before .if2 .left, tt) ∙ bits-passed (x .w) (x .w) (x .h .now) _ (b .before .before .bits-refusal .ensures) (yesOr (x .held)) (b .if1 .left))
 
 pub told-spec : {M : Type 1} → statement M
 told-spec =
     tie.close
-    (tie.spec bits-refusal-requires returns said-requires returns-2 said-requires-2 returns-3)
+    (tie.spec bits-refusal-requires returns yes-requires returns-2 no-requires returns-3)

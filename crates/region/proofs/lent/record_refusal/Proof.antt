@@ -19,12 +19,12 @@ returns c =
     let b = c .before .before in
     c .fault .ensures ∙ ap (λ (n : ℕ). fault n (b .before .before .args .operand) 0) (b .alone-fault .ensures) ∙ reached 0 _ (omega arith)
 
-said-requires : tie.Need-said-requires
-said-requires c κs = search needs
+accepted-requires : tie.Need-accepted-requires
+accepted-requires c κs = search needs
 
 returns-2 : tie.Need-returns-2
-returns-2 c = c .said .ensures ∙ reached 1 _ (omega arith)
+returns-2 c = c .accepted .ensures ∙ reached 1 _ (omega arith)
 
 pub record-refusal-spec : {M : Type 1} → statement M
 record-refusal-spec =
-    tie.close (tie.spec alone-fault-requires fault-requires returns said-requires returns-2)
+    tie.close (tie.spec alone-fault-requires fault-requires returns accepted-requires returns-2)

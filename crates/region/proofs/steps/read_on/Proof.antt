@@ -35,14 +35,14 @@ returns c = rw (c .fault .ensures, c .before .before .width-fault .ensures) (rea
 start-of-requires : tie.Need-start-of-requires
 start-of-requires c κs = search needs
 
-said-requires : tie.Need-said-requires
-said-requires c κs = search needs
+no-requires : tie.Need-no-requires
+no-requires c κs = search needs
 
 returns-2 : tie.Need-returns-2
 unfolding read-on
 returns-2 c =
     let width-fault = c .before .before .before .before .width-fault in
-    rw (c .said .ensures)
+    rw (c .no .ensures)
     (reached 1 _ (sym (width-fault .ensures) ∙ c .before .before .before .if1 .left, sym (c .before .before .start-of .ensures) ∙ c .before .if2 .taken))
 
 width-of-requires : tie.Need-width-of-requires
@@ -83,7 +83,7 @@ read-on-spec =
     fault-requires
     returns
     start-of-requires
-    said-requires
+    no-requires
     returns-2
     width-of-requires
     read-record-requires

@@ -22,20 +22,20 @@ returns : tie.Need-returns
 unfolding diff-empty
 returns c =
     let x = c .before .before .before .before .before .args in
-    let k = walking (x .w) (x .allowance) (length (x .out .now)) (walk (differenceAt (x .w) (x .s .now) 0)) in
+    let k = walking (x .w) (x .allowance) (length (x .out .now)) 0 (walk (differenceAt (x .w) (x .s .now) 0)) in
     silent-out refl (one-refused (x .w) (x .s .now) _ (c .before .before .one-refusal .ensures) silent k (c .if1 .taken))
 
 header-len-requires : tie.Need-header-len-requires
 header-len-requires c κs = search needs
 
-said-requires : tie.Need-said-requires
-said-requires c κs = search needs
+refused-requires : tie.Need-refused-requires
+refused-requires c κs = search needs
 
 returns-2 : tie.Need-returns-2
 returns-2 c =
     let one-refusal = c .before .before .before .before .before .one-refusal in
     let x = c .before .before .before .before .before .before .before .before .args in
-    silent-out (c .said .ensures)
+    silent-out (c .refused .ensures)
     (diff-room (x .w) (x .s .now) (x .allowance) (length (x .out .now)) _ (one-refusal .ensures) (c .before .before .before .if1 .left) (omega (arith, c .before .if2 .taken, c .before .before .header-len .ensures)))
 
 cube-len-requires : tie.Need-cube-len-requires
@@ -68,6 +68,8 @@ same-length c = search needs
 
 returns-3 : tie.Need-returns-3
 returns-3 c =
+    let tell = c .before .before .tell in
+    let v = c .before .before .before .before .walk-record in
     let front-at = c .before .before .before .before .before .front-at in
     let cube-len = c .before .before .before .before .before .before .cube-len in
     let if2 = c .before .before .before .before .before .before .before .if2 in
@@ -75,8 +77,7 @@ returns-3 c =
     let if1 = c .before .before .before .before .before .before .before .before .before .if1 in
     let one-refusal = c .before .before .before .before .before .before .before .before .before .before .before .one-refusal in
     let x = c .before .before .before .before .before .before .before .before .before .before .before .before .before .before .args in
-    let v = c .before .before .before .before .walk-record in
-    told-out (x .out .now) (c .before .before .tell .ensures .0) (c .before .before .tell .ensures .1)
+    told-out (x .out .now) (tell .ensures .0) (tell .ensures .1)
     (diff-told (x .w) (x .s .now) (x .allowance) (length (x .out .now)) _ (one-refusal .ensures) (if1 .left)
     (omega (arith, if2 .left, header-len .ensures)) (front-at .ensures .0) (v .result) (rw (cube-len .ensures) at (v .ensures)))
 
@@ -87,7 +88,7 @@ diff-empty-spec =
     one-refusal-requires
     returns
     header-len-requires
-    said-requires
+    refused-requires
     returns-2
     cube-len-requires
     front-at-requires

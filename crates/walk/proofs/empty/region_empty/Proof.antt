@@ -2,9 +2,10 @@
 use Prim.Native.Nat.{ℕ}
 use native.Mathlib.Omega.{arith}
 use mathlib.Core.Path.{_≡_, sym, ap, _∙_}
+use mathlib.Core.List.{map}
 use lib.ListN.{length}
 use borrow.Author.Needs.{needs}
-use Rattle.model.specs.Walk.{walkRegion}
+use Rattle.model.specs.Walk.{walk, walkRegion, stop}
 use Rattle.format.proofs.Lending.{file-refused, silent-out, told-out}
 use Rattle.format.proofs.Filing.{file-of}
 use Rattle.format.specs.Calls.{region-empty}
@@ -31,20 +32,20 @@ unfolding region-empty
 returns c =
     let x = c .before .before .before .before .before .before .args in
     let f = c .before .before .before .check-file .ensures in
-    let k = walking (widthOf (x .s .now)) (x .allowance) (length (x .out .now)) (walkRegion (regionIn (x .s .now))) in
+    let k = walking (widthOf (x .s .now)) (x .allowance) (length (x .out .now)) (stop (x .allowance) (map walk (regionIn (x .s .now)))) (walkRegion (regionIn (x .s .now))) in
     silent-out (c .fault .ensures) (file-refused (x .s .now) 1 k _ _ (f .number) (f .offset) (c .before .if1 .taken))
 
 header-len-requires : tie.Need-header-len-requires
 header-len-requires c κs = search needs
 
-said-requires : tie.Need-said-requires
-said-requires c κs = search needs
+refused-requires : tie.Need-refused-requires
+refused-requires c κs = search needs
 
 returns-2 : tie.Need-returns-2
 returns-2 c =
     let check-file = c .before .before .before .before .before .check-file in
     let x = c .before .before .before .before .before .before .before .before .args in
-    silent-out (c .said .ensures)
+    silent-out (c .refused .ensures)
     (region-room (x .s .now) (x .allowance) (length (x .out .now)) (accepted (c .before .before .before)) (omega (arith, c .before .if2 .taken, c .before .before .header-len .ensures, check-file .ensures .width)))
 
 cube-len-requires : tie.Need-cube-len-requires
@@ -68,18 +69,18 @@ same-length c = search needs
 
 returns-3 : tie.Need-returns-3
 returns-3 c =
+    let tell = c .before .before .tell in
+    let v = c .before .before .before .before .walk-file in
     let cube-len = c .before .before .before .before .before .cube-len in
     let if2 = c .before .before .before .before .before .before .if2 in
     let header-len = c .before .before .before .before .before .before .before .header-len in
-    let check-file = c .before .before .before .before .before .before .before .before .before .before .check-file in
+    let f = c .before .before .before .before .before .before .before .before .before .before .check-file .ensures in
     let x = c .before .before .before .before .before .before .before .before .before .before .before .before .before .args in
-    let v = c .before .before .before .before .walk-file in
-    let f = check-file .ensures in
-    let e = rw (cube-len .ensures ∙ ap cubeLen (f .width)) at (v .ensures) in
-    told-out (x .out .now) (c .before .before .tell .ensures .0) (c .before .before .tell .ensures .1)
-    (ap (λ (w : ℕ). toldOf w (v .result .verdict) (v .result .allowance .spent) (v .result .piece)) (f .width)
+    let e = rw (cube-len .ensures ∙ ap cubeLen (f .width)) at (v .ensures .0) in
+    told-out (x .out .now) (tell .ensures .0) (tell .ensures .1)
+    (ap (λ (w : ℕ). toldOf w (v .result)) (f .width)
     ∙ region-told (x .s .now) (x .allowance) (length (x .out .now)) (accepted (c .before .before .before .before .before .before .before .before))
-    (omega (arith, if2 .left, header-len .ensures, f .width)) (v .result) e)
+    (omega (arith, if2 .left, header-len .ensures, f .width)) (v .result) e (v .ensures .1))
 
 pub region-empty-spec : {M : Type 1} → statement M
 region-empty-spec =
@@ -89,7 +90,7 @@ region-empty-spec =
     fault-requires
     returns
     header-len-requires
-    said-requires
+    refused-requires
     returns-2
     cube-len-requires
     walk-file-requires

@@ -4,7 +4,7 @@ use mathlib.Core.Bool.{true}
 use mathlib.Core.Path.{refl}
 use lib.ListN.{length}
 use borrow.Author.Needs.{needs}
-use Rattle.model.specs.Walk.{walkInclusion}
+use Rattle.model.specs.Walk.{walkInclusion, walksLess, stop}
 use Rattle.format.proofs.Lending.{two-refused, two-lent, silent-out, told-out}
 use Rattle.format.proofs.Recording.{record-of}
 use Rattle.format.specs.Calls.{diff-in}
@@ -22,20 +22,22 @@ returns : tie.Need-returns
 unfolding diff-in
 returns c =
     let x = c .before .before .before .before .before .before .args in
-    let k = walking (x .w) (x .allowance) (length (x .out .now)) (walkInclusion (differenceAt (x .w) (x .s .now) 0) (differenceAt (x .w) (x .t .now) 0)) in
+    let a = differenceAt (x .w) (x .s .now) 0 in
+    let b = differenceAt (x .w) (x .t .now) 0 in
+    let k = walking (x .w) (x .allowance) (length (x .out .now)) (stop (x .allowance) (walksLess a b)) (walkInclusion a b) in
     silent-out refl (two-refused (x .w) (x .s .now) (x .t .now) _ (c .before .before .two-refusal .ensures) k (c .if1 .taken))
 
 header-len-requires : tie.Need-header-len-requires
 header-len-requires c κs = search needs
 
-said-requires : tie.Need-said-requires
-said-requires c κs = search needs
+refused-requires : tie.Need-refused-requires
+refused-requires c κs = search needs
 
 returns-2 : tie.Need-returns-2
 returns-2 c =
     let two-refusal = c .before .before .before .before .before .two-refusal in
     let x = c .before .before .before .before .before .before .before .before .before .args in
-    silent-out (c .said .ensures)
+    silent-out (c .refused .ensures)
     (in-room (x .w) (x .s .now) (x .t .now) (x .allowance) (length (x .out .now)) _ (two-refusal .ensures) (c .before .before .before .if1 .left) (omega (arith, c .before .if2 .taken, c .before .before .header-len .ensures)))
 
 front-at-requires : tie.Need-front-at-requires
@@ -87,7 +89,8 @@ returns-3 c =
     let v = c .before .before .before .before .walk-less in
     told-out (x .out .now) (c .before .before .tell .ensures .0) (c .before .before .tell .ensures .1)
     (in-told (x .w) (x .s .now) (x .t .now) (x .allowance) (length (x .out .now)) _ (two-refusal .ensures) (if1 .left)
-    (omega (arith, if2 .left, header-len .ensures)) (front-at .ensures .0) (front-at2 .ensures .0) (v .result) (rw (cube-len .ensures) at (v .ensures)))
+    (omega (arith, if2 .left, header-len .ensures)) (front-at .ensures .0) (front-at2 .ensures .0) (v .result)
+    (rw (cube-len .ensures) at (v .ensures .0)) (rw (cube-len .ensures) at (v .ensures .1)))
 
 pub diff-in-spec : {M : Type 1} → statement M
 diff-in-spec =
@@ -96,7 +99,7 @@ diff-in-spec =
     two-refusal-requires
     returns
     header-len-requires
-    said-requires
+    refused-requires
     returns-2
     front-at-requires
     front-at-requires-2

@@ -4,12 +4,13 @@ use mathlib.Core.Path.{_≡_, sym, ap, _∙_}
 use borrow.Author.Tests.{not-true, not-false}
 use borrow.Author.Needs.{needs}
 use Rattle.model.specs.Cube.{shares}
+use Rattle.model.proofs.Including.{back-met}
 use Rattle.cube.proofs.Wholes.{whole-part}
 use Rattle.cube.specs.Whole.{wholeAt}
 use Rattle.region.specs.Front.{wholeDifference}
 use Rattle.visits.proofs.Walked.{walked-settles}
 use Rattle.visits.specs.Settle.{settle}
-use Rattle.walk.proofs.Restoring.{back-apart, back-met}
+use Rattle.walk.proofs.Restoring.{back-apart}
 use Rattle.walk.proofs.inclusion.walk_back.Statement.{statement}
 use Rattle.walk.proofs.inclusion.walk_back.Tie as tie
 

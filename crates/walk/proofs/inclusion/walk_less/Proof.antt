@@ -1,8 +1,9 @@
 -- `walk::inclusion::walk_less` meets its contract.
+use Prim.Native.Nat.{ℕ, suc, _+_}
 use native.Mathlib.Omega.{arith}
-use mathlib.Core.Path.{sym, _∙_}
+use mathlib.Core.Path.{_≡_, sym, _∙_}
 use borrow.Author.Needs.{needs}
-use Rattle.visits.proofs.Settle.{settle-keeps, said-on, said-stop}
+use Rattle.visits.proofs.Settle.{settle-keeps, said-on, said-stop, stop-covered, stop-decided}
 use Rattle.visits.proofs.Turn.{is-covered, not-covered}
 use Rattle.visits.specs.Settle.{says}
 use Rattle.walk.proofs.inclusion.walk_less.Statement.{statement}
@@ -18,7 +19,9 @@ returns : tie.Need-returns
 returns c =
     let x = c .before .before .before .before .args in
     let v = c .before .walk-first in
-    said-stop (x .a) _ _ (says (x .q) (v .result)) (v .ensures) (not-covered (v .result .verdict) (c .match .keys2))
+    let d = says (x .q) (v .result) in
+    let k = not-covered (v .result .verdict) (c .match .keys2) in
+    (said-stop (x .a) _ _ d (v .ensures) k, sym (stop-decided (x .a) _ d (v .ensures) k _))
 
 walk-restored-requires : tie.Need-walk-restored-requires
 walk-restored-requires c κs =
@@ -30,8 +33,14 @@ returns-2 : tie.Need-returns-2
 returns-2 c =
     let x = c .before .before .before .before .before .before .args in
     let v = c .before .before .before .walk-first in
-    c .walk-restored .ensures
-    ∙ sym (said-on (x .a) _ _ (says (x .q) (v .result)) (v .ensures) (is-covered (v .result .verdict) (c .before .before .match .keys1)))
+    let d = says (x .q) (v .result) in
+    let k = is-covered (v .result .verdict) (c .before .before .match .keys1) in (
+      c .walk-restored .ensures .0 ∙ sym (said-on (x .a) _ _ d (v .ensures) k),
+      c .walk-restored .ensures .1 ∙ one-suc _ ∙ sym (stop-covered (x .a) _ d (v .ensures) k _),
+    )
+  where
+    one-suc : (n : ℕ) → 1 + n ≡ suc n
+    one-suc n = omega arith
 
 pub walk-less-spec : {M : Type 1} → statement M
 walk-less-spec =

@@ -1,12 +1,15 @@
 -- `walk::told::tell` meets its contract, for each verdict.
 use Prim.Native.Nat.{ℕ}
 use mathlib.Core.Path.{sym, ap, _∙_}
+use lib.ListN.{take}
 use borrow.Author.Needs.{needs}
 use Rattle.answer.specs.Answer.{showing}
-use Rattle.format.specs.Told.{over}
+use Rattle.format.specs.Bytes.{codes}
+use Rattle.format.specs.Told.{Told, over, deciding}
 use Rattle.cube.proofs.Showing.{shown-fits}
 use Rattle.visits.specs.declared.allowance.Verdict.{Verdict}
-use Rattle.walk.specs.Tell.{toldOf}
+use Rattle.visits.specs.Settle.{decisionOf}
+use Rattle.walk.specs.declared.stop.Stop.{Stop}
 use Rattle.walk.proofs.told.tell.Statement.{statement}
 use Rattle.walk.proofs.told.tell.Tie as tie
 
@@ -34,20 +37,24 @@ header-len-requires c κs = search needs
 showing-requires : tie.Need-showing-requires
 showing-requires c κs = search needs
 
+-- what is told, by the verdict alone
+abbrev toldBy : ℕ → Stop → Verdict → Told
+toldBy w x k = deciding w (decisionOf k (x .outcome .allowance .spent) (x .index) (take w (codes (x .outcome .piece))))
+
 returns : tie.Need-returns
 returns c =
-    let x = c .before .before .before .before .before .args in
+    let a = c .before .before .before .before .before .before .args in
     let e = sym (c .before .enum-told .given .1) in (
-      c .counted .ensures ∙ ap (λ (k : Verdict). toldOf (x .w) k (x .v .allowance .spent) (x .v .piece) .answer) e,
-      ap (λ (k : Verdict). over (x .out .now) (toldOf (x .w) k (x .v .allowance .spent) (x .v .piece) .bytes)) e,
+      c .counted .ensures ∙ ap (λ (k : Verdict). toldBy (a .w) (a .x) k .answer) e,
+      ap (λ (k : Verdict). over (a .out .now) (toldBy (a .w) (a .x) k .bytes)) e,
     )
 
 returns-2 : tie.Need-returns-2
 returns-2 c =
-    let x = c .before .before .before .before .before .args in
+    let a = c .before .before .before .before .before .before .args in
     let e = sym (c .before .enum-told2 .given .1) in (
-      c .counted2 .ensures ∙ ap (λ (k : Verdict). toldOf (x .w) k (x .v .allowance .spent) (x .v .piece) .answer) e,
-      ap (λ (k : Verdict). over (x .out .now) (toldOf (x .w) k (x .v .allowance .spent) (x .v .piece) .bytes)) e,
+      c .counted2 .ensures ∙ ap (λ (k : Verdict). toldBy (a .w) (a .x) k .answer) e,
+      ap (λ (k : Verdict). over (a .out .now) (toldBy (a .w) (a .x) k .bytes)) e,
     )
 
 same-length : tie.Need-same-length
@@ -57,11 +64,13 @@ returns-3 : tie.Need-returns-3
 returns-3 c =
     let show = c .before .before .before .before .show in
     let enum-told3 = c .before .before .before .before .before .before .before .enum-told3 in
-    let x = c .before .before .before .before .before .before .before .before .before .before .before .args in
+    let a = c .before .before .before .before .before .before .before .before .before .before .before .before .args in
+    let o = a .x .outcome in
     let e = sym (enum-told3 .given .1) in (
-      c .showing .ensures ∙ ap (λ (b : ℕ). showing (x .v .allowance .spent) b) (c .before .header-len .ensures) ∙ ap (λ (k : Verdict). toldOf (x .w) k (x .v .allowance .spent) (x .v .piece) .answer) e,
-      show .ensures ∙ shown-fits (x .v .piece) (search needs) (x .out .now) (x .w) (search needs) (search needs)
-          ∙ ap (λ (k : Verdict). over (x .out .now) (toldOf (x .w) k (x .v .allowance .spent) (x .v .piece) .bytes)) e,
+      c .showing .ensures ∙ ap (λ (b : ℕ). showing (o .allowance .spent) b) (c .before .header-len .ensures)
+          ∙ ap (λ (k : Verdict). toldBy (a .w) (a .x) k .answer) e,
+      show .ensures ∙ shown-fits (o .piece) (search needs) (a .out .now) (a .w) (search needs) (search needs)
+          ∙ ap (λ (k : Verdict). over (a .out .now) (toldBy (a .w) (a .x) k .bytes)) e,
     )
 
 pub tell-spec : {M : Type 1} → statement M
