@@ -48,9 +48,10 @@ fn answer(
     let a = part(line, q.a, q.a_end);
     let b = part(line, q.b, q.b_end);
     room::fill(room);
-    let r = calls::ask(call, q, a, b, room);
+    let given = calls::ask(call, q, a, b, room);
+    let r = given.answer;
     let held = put_answer(text, held, r);
-    let held = calls::put_rest(text, held, call, q, a, b, part(room, 0, r.written));
+    let held = calls::put_rest(text, held, call, q, a, b, given, part(room, 0, r.written));
     put_end(text, held, room::touched(room, r.written))
 }
 

@@ -9,6 +9,7 @@ use crate::arguments::W;
 use crate::arguments::X;
 use crate::arguments::Y;
 use crate::arguments::Z;
+use crate::find::part;
 use crate::text::put;
 use crate::text::put_bytes;
 use crate::text::put_number;
@@ -90,8 +91,15 @@ pub fn form(call: Call) -> [u8; 6] {
     }
 }
 
-// The call's result.
-pub fn ask(call: Call, q: Arguments, a: &[u8], b: &[u8], out: &mut [u8]) -> Answer {
+// What a call gives: its result; and beside it, where a stretch of the file starts and ends, or the next place, which is then the start.
+pub struct Given {
+    pub answer: Answer,
+    pub start: usize,
+    pub end: usize,
+}
+
+// The result of a call that hands nothing beside it but what it writes.
+fn answered(call: Call, q: Arguments, a: &[u8], b: &[u8], out: &mut [u8]) -> Answer {
     match call {
         Call::CubeMeet => cube::cube_meet(q.w, a, b, out),
         Call::CubeIn => cube::cube_in(q.w, a, b),
@@ -109,17 +117,50 @@ pub fn ask(call: Call, q: Arguments, a: &[u8], b: &[u8], out: &mut [u8]) -> Answ
         Call::RegionTidy => algebra::region_tidy(a, out),
         Call::Prefix => fields::prefix(q.w, q.x, q.y, q.z, a, out),
         Call::EqualFields => fields::equal_fields(q.w, q.x, q.y, q.z, out),
-        Call::View => region::view_number(a, q.x, q.y),
-        Call::ReadOn => region::read_on(a, q.x).answer,
-        Call::Unknown => Answer::said(0),
+        _ => Answer::accepted(),
+    }
+}
+
+// Where a cube of a file lies.
+fn viewed(file: &[u8], d: usize, i: usize) -> Given {
+    let v = region::stretch_of(file, d, i);
+    let answer = v.answer;
+    Given {
+        answer,
+        start: v.start,
+        end: v.start + v.size,
+    }
+}
+
+// A step of reading on, and its next place.
+fn stepped(file: &[u8], place: usize) -> Given {
+    let step = region::read_on(file, place);
+    let answer = step.answer;
+    Given {
+        answer,
+        start: step.place,
+        end: step.place,
+    }
+}
+
+// Asks the call, once.
+pub fn ask(call: Call, q: Arguments, a: &[u8], b: &[u8], out: &mut [u8]) -> Given {
+    match call {
+        Call::View => viewed(a, q.x, q.y),
+        Call::ReadOn => stepped(a, q.x),
+        _ => Given {
+            answer: answered(call, q, a, b, out),
+            start: 0,
+            end: 0,
+        },
     }
 }
 
 // A cube of a file, and where it starts.
-fn put_view(text: &mut [u8], held: usize, file: &[u8], d: usize, i: usize) -> usize {
-    let held = put_bytes(text, held, region::view(file, d, i));
+fn put_view(text: &mut [u8], held: usize, file: &[u8], given: Given) -> usize {
+    let held = put_bytes(text, held, part(file, given.start, given.end));
     let held = put(text, held, b' ');
-    put_number(text, held, region::stretch_of(file, d, i).start as u64)
+    put_number(text, held, given.start as u64)
 }
 
 // What the call hands beside its result.
@@ -130,12 +171,13 @@ pub fn put_rest<'a>(
     q: Arguments,
     a: &'a [u8],
     b: &'a [u8],
+    given: Given,
     written: &[u8],
 ) -> usize {
     match call {
         Call::Wider => put_bytes(text, held, cube::wider(q.w, a, b)),
-        Call::View => put_view(text, held, a, q.x, q.y),
-        Call::ReadOn => put_number(text, held, region::read_on(a, q.x).place as u64),
+        Call::View => put_view(text, held, a, given),
+        Call::ReadOn => put_number(text, held, given.start as u64),
         _ => put_bytes(text, held, written),
     }
 }
