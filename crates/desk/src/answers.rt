@@ -74,7 +74,7 @@ fn answer_question(
 }
 
 // Answers a line that is given without its newline.
-pub fn answer_line(line: &mut [u8], out: &mut [u8], text: &mut [u8], held: usize) -> usize {
+pub(crate) fn answer_line(line: &mut [u8], out: &mut [u8], text: &mut [u8], held: usize) -> usize {
     if LONGEST < line.len() {
         return put_unreadable(text, held);
     }

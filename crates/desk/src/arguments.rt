@@ -8,23 +8,23 @@ use crate::words::Words;
 
 // The sorts of arguments: numbers, of which W is the width where it is given directly; operands in bytes; the allowance; the room of the buffer
 // that is lent. A form is the sorts in their order, and END behind the last.
-pub const END: u8 = 0;
+pub(crate) const END: u8 = 0;
 
-pub const W: u8 = 1;
+pub(crate) const W: u8 = 1;
 
-pub const X: u8 = 2;
+pub(crate) const X: u8 = 2;
 
-pub const Y: u8 = 3;
+pub(crate) const Y: u8 = 3;
 
-pub const Z: u8 = 4;
+pub(crate) const Z: u8 = 4;
 
-pub const A: u8 = 5;
+pub(crate) const A: u8 = 5;
 
-pub const B: u8 = 6;
+pub(crate) const B: u8 = 6;
 
-pub const ALLOWANCE: u8 = 7;
+pub(crate) const ALLOWANCE: u8 = 7;
 
-pub const ROOM: u8 = 8;
+pub(crate) const ROOM: u8 = 8;
 
 const LARGEST: usize = 18446744073709551615;
 
@@ -33,18 +33,18 @@ const MOST_ALLOWANCE: usize = 4294967295;
 const MOST_ROOM: usize = 1048576;
 
 // An operand is left in the line, where its digits stood: the first from `a` to `a_end`, the second from `b` to `b_end`.
-pub struct Arguments {
-    pub known: bool,
-    pub w: usize,
-    pub x: usize,
-    pub y: usize,
-    pub z: usize,
-    pub a: usize,
-    pub a_end: usize,
-    pub b: usize,
-    pub b_end: usize,
-    pub allowance: u32,
-    pub room: usize,
+pub(crate) struct Arguments {
+    pub(crate) known: bool,
+    pub(crate) w: usize,
+    pub(crate) x: usize,
+    pub(crate) y: usize,
+    pub(crate) z: usize,
+    pub(crate) a: usize,
+    pub(crate) a_end: usize,
+    pub(crate) b: usize,
+    pub(crate) b_end: usize,
+    pub(crate) allowance: u32,
+    pub(crate) room: usize,
 }
 
 fn nothing() -> Arguments {
@@ -140,7 +140,7 @@ fn take_word(q: Arguments, sort: u8, line: &mut [u8], start: usize, end: usize) 
 }
 
 // Reads the words behind the call's name; known where each is what the form says and there are as many.
-pub fn read(line: &mut [u8], words: Words, form: [u8; 6]) -> Arguments {
+pub(crate) fn read(line: &mut [u8], words: Words, form: [u8; 6]) -> Arguments {
     let mut q = nothing();
     let mut i = 0;
     while i < 6 {

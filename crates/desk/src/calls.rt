@@ -16,7 +16,7 @@ use crate::text::put_number;
 use crate::words::place;
 use answer::Answer;
 
-pub enum Call {
+pub(crate) enum Call {
     CubeMeet,
     CubeIn,
     Wider,
@@ -39,7 +39,7 @@ pub enum Call {
 }
 
 // The call that has the name: the names stand in the order of the numbers.
-pub fn named(name: &[u8]) -> Call {
+pub(crate) fn named(name: &[u8]) -> Call {
     let names =
         b"cube_meet cube_in wider diff_member region_member diff_intersect region_intersect diff_less region_less \
         diff_empty region_empty diff_in ceiling region_tidy prefix equal_fields view read_on";
@@ -67,7 +67,7 @@ pub fn named(name: &[u8]) -> Call {
 }
 
 // What the call's arguments are.
-pub fn form(call: Call) -> [u8; 6] {
+pub(crate) fn form(call: Call) -> [u8; 6] {
     match call {
         Call::CubeMeet => [W, A, B, ROOM, END, END],
         Call::CubeIn => [W, A, B, END, END, END],
@@ -92,10 +92,10 @@ pub fn form(call: Call) -> [u8; 6] {
 }
 
 // What a call gives: its result; and beside it, where a stretch of the file starts and ends, or the next place, which is then the start.
-pub struct Given {
-    pub answer: Answer,
-    pub start: usize,
-    pub end: usize,
+pub(crate) struct Given {
+    pub(crate) answer: Answer,
+    pub(crate) start: usize,
+    pub(crate) end: usize,
 }
 
 // The result of a call that hands nothing beside it but what it writes.
@@ -144,7 +144,7 @@ fn stepped(file: &[u8], place: usize) -> Given {
 }
 
 // Asks the call, once.
-pub fn ask(call: Call, q: Arguments, a: &[u8], b: &[u8], out: &mut [u8]) -> Given {
+pub(crate) fn ask(call: Call, q: Arguments, a: &[u8], b: &[u8], out: &mut [u8]) -> Given {
     match call {
         Call::View => viewed(a, q.x, q.y),
         Call::ReadOn => stepped(a, q.x),
@@ -164,7 +164,7 @@ fn put_view(text: &mut [u8], held: usize, file: &[u8], given: Given) -> usize {
 }
 
 // What the call hands beside its result.
-pub fn put_rest<'a>(
+pub(crate) fn put_rest<'a>(
     text: &mut [u8],
     held: usize,
     call: Call,

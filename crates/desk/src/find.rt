@@ -18,7 +18,7 @@ pub(crate) fn find(s: &[u8], from: usize, byte: u8) -> usize
 }
 
 // The bytes from `from` to `to`, or none where they are not all there.
-pub fn part(s: &[u8], from: usize, to: usize) -> &[u8] {
+pub(crate) fn part(s: &[u8], from: usize, to: usize) -> &[u8] {
     if from <= to {
         if to <= s.len() {
             return &s[from..to];

@@ -6,20 +6,20 @@ ghost use lib.ListN.{length};
 ghost use Rattle.desk.specs.Reading.{Sound};
 
 // A line of more bytes is no question.
-pub const LONGEST: usize = 524288;
+pub(crate) const LONGEST: usize = 524288;
 
 // Where reading stands: a line begins at `start`, no newline was found up to `seen`, and the bytes read end at `end`. `open` while there may be
 // more to read; `passed` where the beginning of the line was too long to keep.
-pub struct Lines {
-    pub start: usize,
-    pub seen: usize,
-    pub end: usize,
-    pub open: bool,
-    pub passed: bool,
+pub(crate) struct Lines {
+    pub(crate) start: usize,
+    pub(crate) seen: usize,
+    pub(crate) end: usize,
+    pub(crate) open: bool,
+    pub(crate) passed: bool,
 }
 
 // Before anything is read.
-pub fn begin() -> Lines
+pub(crate) fn begin() -> Lines
     ensures { λ r. ⌜ Sound r 0 ⌝ }
 {
     Lines {

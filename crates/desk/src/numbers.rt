@@ -2,13 +2,13 @@
 ghost use Prim.Native.Nat.{_≤_};
 
 // What a word says: a number, or how many bytes. Where the word is not readable it is not known, and 0.
-pub struct Number {
-    pub known: bool,
-    pub value: usize,
+pub(crate) struct Number {
+    pub(crate) known: bool,
+    pub(crate) value: usize,
 }
 
 // What an unreadable word says.
-pub fn unknown() -> Number
+pub(crate) fn unknown() -> Number
     ensures { λ r. ⌜ r .value ≤ 0 ⌝ }
 {
     Number {
@@ -28,7 +28,7 @@ fn digit(c: u8) -> usize
 }
 
 // The number that is spelled by decimal digits, where it is at most `most`.
-pub fn read(word: &[u8], most: usize) -> Number
+pub(crate) fn read(word: &[u8], most: usize) -> Number
     ensures { λ r. ⌜ r .value ≤ most ⌝ }
 {
     let mut value = 0;

@@ -47,7 +47,7 @@ fn read_none(word: &[u8]) -> Number
 }
 
 // Puts the bytes that the word spells in the place of its first digits, and gives how many they are.
-pub fn read(word: &mut [u8]) -> Number
+pub(crate) fn read(word: &mut [u8]) -> Number
     ensures { λ r. ⌜ r .value ≤ length (now (word .entry)) ⌝ }
 {
     let n = word.len() / 2;

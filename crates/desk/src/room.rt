@@ -4,7 +4,7 @@ fn pattern(i: usize) -> u8 {
 }
 
 // Fills the room with the pattern.
-pub fn fill(room: &mut [u8]) {
+pub(crate) fn fill(room: &mut [u8]) {
     let mut i = 0;
     while i < room.len() {
         room[i] = pattern(i);
@@ -13,7 +13,7 @@ pub fn fill(room: &mut [u8]) {
 }
 
 // Whether a byte from `written` on is not the pattern's.
-pub fn touched(room: &[u8], written: usize) -> bool {
+pub(crate) fn touched(room: &[u8], written: usize) -> bool {
     let mut changed = 0;
     let mut i = written;
     while i < room.len() {

@@ -5,7 +5,7 @@ ghost use Prim.Native.Nat.{_≤_};
 ghost use lib.ListN.{length};
 
 // Writes out what is held, after which nothing is.
-pub fn flush(text: &[u8], held: usize) -> usize
+pub(crate) fn flush(text: &[u8], held: usize) -> usize
     ensures { λ r. ⌜ r ≤ length (now (text .entry)) ⌝ }
 {
     if held <= text.len() {
@@ -15,7 +15,7 @@ pub fn flush(text: &[u8], held: usize) -> usize
 }
 
 // Holds one byte more.
-pub fn put(text: &mut [u8], held: usize, byte: u8) -> usize
+pub(crate) fn put(text: &mut [u8], held: usize, byte: u8) -> usize
     ensures { λ r. ⌜ r ≤ length (now (text .entry)) ⌝ }
 {
     if held < text.len() {
@@ -31,7 +31,7 @@ pub fn put(text: &mut [u8], held: usize, byte: u8) -> usize
 }
 
 // Holds the bytes of `s` too.
-pub fn put_all(text: &mut [u8], held: usize, s: &[u8]) -> usize {
+pub(crate) fn put_all(text: &mut [u8], held: usize, s: &[u8]) -> usize {
     let mut held = held;
     let mut i = 0;
     while i < s.len() {
@@ -42,14 +42,14 @@ pub fn put_all(text: &mut [u8], held: usize, s: &[u8]) -> usize {
 }
 
 // A number in decimal.
-pub fn put_number(text: &mut [u8], held: usize, n: u64) -> usize {
+pub(crate) fn put_number(text: &mut [u8], held: usize, n: u64) -> usize {
     let mut digits = [0u8; 20];
     let k = io::decimal(n, &mut digits);
     put_all(text, held, &digits[..k])
 }
 
 // Numbers in decimal, with a space behind each.
-pub fn put_numbers(text: &mut [u8], held: usize, s: &[u64]) -> usize {
+pub(crate) fn put_numbers(text: &mut [u8], held: usize, s: &[u64]) -> usize {
     let mut held = held;
     let mut i = 0;
     while i < s.len() {
@@ -61,7 +61,7 @@ pub fn put_numbers(text: &mut [u8], held: usize, s: &[u64]) -> usize {
 }
 
 // Bytes in hex, `-` for none. What is held is written out first, so that the digits have the whole buffer; no more than fit are held.
-pub fn put_bytes(text: &mut [u8], held: usize, s: &[u8]) -> usize {
+pub(crate) fn put_bytes(text: &mut [u8], held: usize, s: &[u8]) -> usize {
     if s.len() == 0 {
         return put(text, held, b'-');
     }

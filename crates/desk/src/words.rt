@@ -4,14 +4,14 @@ use crate::find::part;
 use check::same;
 
 // The word i is from starts[i] to ends[i]. No question has more than seven words; more than eight are not counted.
-pub struct Words {
-    pub starts: [usize; 8],
-    pub ends: [usize; 8],
-    pub count: usize,
+pub(crate) struct Words {
+    pub(crate) starts: [usize; 8],
+    pub(crate) ends: [usize; 8],
+    pub(crate) count: usize,
 }
 
 // Splits a line into its words, of which an empty one has no bytes.
-pub fn split(line: &[u8]) -> Words {
+pub(crate) fn split(line: &[u8]) -> Words {
     let mut starts = [0usize; 8];
     let mut ends = [0usize; 8];
     let mut count = 0;
@@ -34,7 +34,7 @@ pub fn split(line: &[u8]) -> Words {
 }
 
 // The place of a word among the words of a list, or how many words there are.
-pub fn place(list: &[u8], word: &[u8]) -> usize {
+pub(crate) fn place(list: &[u8], word: &[u8]) -> usize {
     let mut from = 0;
     let mut i = 0;
     while from < list.len() {

@@ -133,8 +133,10 @@ module _ (w : ℕ) (s : List ℕ) where
 
 -- a region
 module _ (s : List ℕ) (n room : ℕ) where
-  region-asks : Asks (widthOf s) n (stop n (map walk (regionIn s))) (inRegion (regionIn s)) (walkRegion (regionIn s)) ((faultNumber (readFile s) ≡ 0) × (headerLen (widthOf s) ≤ room))
-      (region-empty s n room)
+  region-asks :
+      let w = widthOf s in
+      let r = regionIn s in
+      Asks w n (stop n (map walk r)) (inRegion r) (walkRegion r) ((faultNumber (readFile s) ≡ 0) × (headerLen w ≤ room)) (region-empty s n room)
   unfolding region-empty
   region-asks =
       let k = lentFile s 1 (walking (widthOf s) n room (stop n (map walk (regionIn s))) (walkRegion (regionIn s))) in

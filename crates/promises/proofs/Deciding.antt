@@ -105,7 +105,8 @@ pieces-at-most-ceilings (d ∷ r) = omega (arith, next-at-most (walk d) (walkReg
 
 pub count-at-most-pieces : (w n i : ℕ) (v : Found) → deciding w (decide n i v) .answer .count ≤ v .pieces
 count-at-most-pieces w n i v =
-    rw (count-told w (decide n i v)) (decide-by (λ d. countOf d ≤ v .pieces) n i v (λ unpaid. omega arith) (λ paid none. omega arith) (λ q paid some. omega arith))
+    rw (count-told w (decide n i v))
+    (decide-by (λ d. countOf d ≤ v .pieces) n i v (λ unpaid. omega arith) (λ paid none. omega arith) (λ q paid some. omega arith))
 
 pub at-most : (most : ℕ) (k : Rows Told) → Mute k → LastLine (λ x. x .answer .count ≤ most) k → outcome k .answer .count ≤ most
 at-most most = told-by (λ x. x .answer .count ≤ most) (λ x e f c. omega arith)

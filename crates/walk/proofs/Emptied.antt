@@ -39,6 +39,7 @@ use Rattle.region.proofs.Fronts.{front-next}
 use Rattle.visits.specs.Settle.{Said, settle, says}
 use Rattle.walk.specs.Tell.{toldOf}
 use Rattle.walk.specs.declared.stop.Stop.{Stop}
+use Rattle.walk.specs.Ending.{Empties}
 use Rattle.visits.specs.declared.allowance.Allowance.{Allowance}
 use Rattle.visits.specs.declared.allowance.Verdict.the-variants.{Covered}
 use Rattle.visits.specs.declared.allowance.Outcome.{Outcome}
@@ -74,20 +75,19 @@ module _ (s : List ℕ) (n room : ℕ) (clean : faultNumber (readFile s) ≡ 0) 
       let k = walking (widthOf s) n room (stop n (map walk (regionIn s))) (walkRegion (regionIn s)) in
       reached 0 k h ∙ file-passed s 1 k clean
 
-  pub region-told : headerLen (widthOf s) ≤ room → (x : Stop)
-      → says (cubeLen (widthOf s)) (x .outcome) ≡ settle (record { left = n; spent = 0 }) (wholeWalk (widthOf s) (regionIn s))
-      → x .index ≡ stop n (map walk (regionIn s)) → toldOf (widthOf s) x ≡ region-empty s n room
+  pub region-told : headerLen (widthOf s) ≤ room → (x : Stop) → Empties (cubeLen (widthOf s)) (record { left = n; spent = 0 }) (widthOf s) (regionIn s) x
+      → toldOf (widthOf s) x ≡ region-empty s n room
   unfolding region-empty
-  region-told h x e i =
+  region-told h x e =
       let k = walking (widthOf s) n room (stop n (map walk (regionIn s))) (walkRegion (regionIn s)) in
       outcome-told (widthOf s) (cubeLen (widthOf s)) (unused (widthOf s)) n (walkRegion (regionIn s)) x (omega arith)
-      (region-sized (widthOf s) (regionIn s) (file-good (file-of s clean))) e
-      ∙ ap (λ (j : ℕ). deciding (widthOf s) (decide n j (walkRegion (regionIn s)))) i
+      (region-sized (widthOf s) (regionIn s) (file-good (file-of s clean))) (e .outcome)
+      ∙ ap (λ (j : ℕ). deciding (widthOf s) (decide n j (walkRegion (regionIn s)))) (e .index)
       ∙ reached 1 k (h, tt) ∙ file-passed s 1 k clean
 
-pub covered-says : (q : ℕ) (have : Allowance) (o : Outcome) → (o .allowance ≡ have) × (o .verdict ≡ Covered)
+pub covered-says : (q : ℕ) (o : Outcome) {have : Allowance} → (o .allowance ≡ have) × (o .verdict ≡ Covered)
     → says q o ≡ record { allowance = have; verdict = Covered; piece = [] }
-covered-says q have o e = rw (e .0, e .1)
+covered-says q o (e, f) = rw (e, f)
 
 -- what is left to walk from an offset on
 pub record FileLeft (q : ℕ) (s : List ℕ) (a have : Allowance) (at i : ℕ) : Type 0 where
@@ -113,17 +113,20 @@ file-begun {q} {s} {a} e f l =
 
 module _ {q : ℕ} {s : List ℕ} {a have : Allowance} {at i : ℕ} (x : FileLeft q s a have at i) where
   -- nothing is left
-  pub file-ended : length s ≤ at
-      → (record { allowance = have; verdict = Covered; piece = [] } ≡ settle a (wholeWalk (widthOf s) (regionIn s)))
-      × (i ≡ stop (a .left) (map walk (regionIn s)))
+  pub file-ended : length s ≤ at → (o : Outcome) → (o .allowance ≡ have) × (o .verdict ≡ Covered)
+      → Empties q a (widthOf s) (regionIn s) (record { outcome = o; index = i })
   unfolding stop
-  file-ended h =
-      let e = region-end (widthOf s) s at h in (
-        sym (x .walked ∙ ap (λ (r : Region). settle have (wholeWalk (widthOf s) r)) e ∙ settle-zero have),
-        sym (x .stops ∙ ap (λ (r : Region). i + stop (have .left) (map walk r)) e ∙ add-zero _),
-      )
+  file-ended h o c =
+      let e = region-end (widthOf s) s at h in
+      record {
+        outcome = covered-says q o c ∙ sym (x .walked ∙ ap (λ (r : Region). settle have (wholeWalk (widthOf s) r)) e ∙ settle-zero have);
+        index = sym (x .stops ∙ ap (λ (r : Region). i + stop (have .left) (map walk r)) e ∙ add-zero _);
+      }
 
-  module _ (h : at < length s) {f : Front} (j : FrontIs s at f) (d : Said) (e : d ≡ settle have (walk (wholeDifference q s f))) where
+  module _ (h : at < length s) {f : Front} (j : FrontIs s at f) (o : Outcome) (e : says q o ≡ settle have (walk (wholeDifference q s f))) where
+    abbrev d : Said
+    d = says q o
+
     abbrev w : ℕ
     w = widthOf s
 
@@ -150,7 +153,7 @@ module _ {q : ℕ} {s : List ℕ} {a have : Allowance} {at i : ℕ} (x : FileLef
         ∙ ap (λ (k : ℕ). i + k) (sym (stop-padded w (unused w) (have .left) (map walk (differenceAt w s at ∷ ahead))))
 
     -- the difference here is covered: the others go on with what it left
-    pub file-turn : d .verdict ≡ Covered → FileLeft q s a (d .allowance) (f .next) (i + 1)
+    pub file-turn : o .verdict ≡ Covered → FileLeft q s a (o .allowance) (f .next) (i + 1)
     file-turn v =
         record {
           size = x .size;
@@ -169,9 +172,9 @@ module _ {q : ℕ} {s : List ℕ} {a have : Allowance} {at i : ℕ} (x : FileLef
         add-suc-one m n = omega arith
 
     -- it is not: that is the answer
-    pub file-stop : (d .verdict ≡ Covered → ⊥)
-        → (d ≡ settle a (wholeWalk w (regionIn s))) × (i ≡ stop (a .left) (map walk (regionIn s)))
-    file-stop v = (
-      said-stop have here _ d said v ∙ sym left,
-      sym (stop-left ∙ ap (λ (k : ℕ). i + k) (stop-decided have here d said v _) ∙ add-zero _),
-    )
+    pub file-stop : (o .verdict ≡ Covered → ⊥) → Empties q a (widthOf s) (regionIn s) (record { outcome = o; index = i })
+    file-stop v =
+        record {
+          outcome = said-stop have here _ d said v ∙ sym left;
+          index = sym (stop-left ∙ ap (λ (k : ℕ). i + k) (stop-decided have here d said v _) ∙ add-zero _);
+        }

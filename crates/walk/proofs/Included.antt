@@ -23,7 +23,8 @@ use Rattle.format.proofs.Recording.{record-of, good-read}
 use Rattle.region.specs.declared.front.Front.{Front}
 use Rattle.region.specs.Front.{FrontIs, wholeDifference}
 use Rattle.region.proofs.Fronts.{whole-record}
-use Rattle.visits.specs.Settle.{settle, says}
+use Rattle.visits.specs.Settle.{settle}
+use Rattle.walk.specs.Ending.{Includes}
 use Rattle.walk.specs.Tell.{toldOf}
 use Rattle.walk.specs.declared.stop.Stop.{Stop}
 use Rattle.walk.proofs.Accepted.{outcome-told}
@@ -38,10 +39,10 @@ module _ (w : ℕ) (s t : List ℕ) (n room : ℕ) (r : Answer) (is : r ≡ outc
       reached 0 k h ∙ two-passed w s t r is k z
 
   pub in-told : headerLen w ≤ room → {f g : Front} → FrontIs s 0 f → FrontIs t 0 g → (x : Stop)
-      → says (cubeLen w) (x .outcome) ≡ settle (record { left = n; spent = 0 }) (walkInclusion (wholeDifference (cubeLen w) s f) (wholeDifference (cubeLen w) t g))
-      → x .index ≡ stop n (walksLess (wholeDifference (cubeLen w) s f) (wholeDifference (cubeLen w) t g)) → toldOf w x ≡ diff-in w s t n room
+      → Includes (cubeLen w) (record { left = n; spent = 0 }) (wholeDifference (cubeLen w) s f) (wholeDifference (cubeLen w) t g) x
+      → toldOf w x ≡ diff-in w s t n room
   unfolding diff-in
-  in-told h i j x e at =
+  in-told h i j x e =
       let lent = two-lent w s t r is z in
       let l = record-of true w 0 s 0 (lent .0 .sound) in
       let m = record-of true w 0 t 0 (lent .1 .sound) in
@@ -52,6 +53,6 @@ module _ (w : ℕ) (s t : List ℕ) (n room : ℕ) (r : Answer) (is : r ≡ outc
       let q = ap₂ walksLess (whole-record l i) (whole-record m j) ∙ less-padded w (unused w) a b (good-read l) (good-read m) in
       outcome-told w (cubeLen w) (unused w) n (walkInclusion a b) x (omega arith)
       (region-sized w (subtraction a b) (good-subtraction w a b (good-read l) (good-read m)))
-      (e ∙ ap (settle (record { left = n; spent = 0 })) p)
-      ∙ ap (λ (c : ℕ). deciding w (decide n c (walkInclusion a b))) (at ∙ ap (stop n) q ∙ stop-padded w (unused w) n (walksLess a b))
+      (e .outcome ∙ ap (settle (record { left = n; spent = 0 })) p)
+      ∙ ap (λ (c : ℕ). deciding w (decide n c (walkInclusion a b))) (e .index ∙ ap (stop n) q ∙ stop-padded w (unused w) n (walksLess a b))
       ∙ reached 1 k (h, tt) ∙ two-passed w s t r is k z

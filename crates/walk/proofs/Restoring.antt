@@ -17,11 +17,14 @@ use Rattle.model.specs.Walk.{next, walkRegion, walkBack, stop}
 use Rattle.model.proofs.Including.{restored-next}
 use Rattle.format.specs.Limits.{mostCuts}
 use Rattle.cube.specs.Whole.{wholeAt, wholesAt}
-use Rattle.visits.specs.Settle.{Said, settle}
+use Rattle.visits.specs.Settle.{Said, settle, says}
+use Rattle.visits.specs.declared.allowance.Outcome.{Outcome}
 use Rattle.visits.specs.declared.allowance.Allowance.{Allowance}
 use Rattle.visits.specs.declared.allowance.Verdict.the-variants.{Covered}
 use Rattle.visits.proofs.Settle.{settle-zero, settle-keeps, said-on, said-stop, stop-covered, stop-decided}
 use Rattle.visits.proofs.Cuts as cuts
+use Rattle.walk.specs.Ending.{Backs}
+use Rattle.walk.proofs.Emptied.{covered-says}
 
 pub back-apart : (a : Difference) (c : Cube) → shares (a .base) c ≡ false → (h : Allowance)
     → record { allowance = h; verdict = Covered; piece = [] } ≡ settle h (walkBack a c)
@@ -60,20 +63,25 @@ cuts-begun r f s = record { room = r; sum = s; few = omega arith; walked = refl;
 
 module _ {a : Difference} {q : ℕ} {t : List ℕ} {from k : ℕ} {fresh have : Allowance} {at left i : ℕ} (x : CutsLeft a q t from k fresh have at left i) where
   -- no cut is left
-  pub cuts-ended : left ≤ 0
-      → (record { allowance = have; verdict = Covered; piece = [] } ≡ settle fresh (walkRegion (restored a (wholesAt q t from k))))
-      × (i ≡ 1 + stop (fresh .left) (map (walkBack a) (wholesAt q t from k)))
+  pub cuts-ended : left ≤ 0 → (o : Outcome) → (o .allowance ≡ have) × (o .verdict ≡ Covered)
+      → Backs q fresh a (wholesAt q t from k) (record { outcome = o; index = i })
   unfolding stop
-  cuts-ended l =
+  cuts-ended l o c =
       let z : left ≡ 0 = omega arith in
-      (restored-none a q t at left z have ∙ sym (x .walked), sym (x .stops ∙ rw (backs-none a q t at left z) (add-zero _)))
+      record {
+        outcome = covered-says q o c ∙ restored-none a q t at left z have ∙ sym (x .walked);
+        index = sym (x .stops ∙ rw (backs-none a q t at left z) (add-zero _));
+      }
 
-  module _ (h : 0 < left) (d : Said) (e : d ≡ settle have (walkBack a (wholeAt q t at))) where
+  module _ (h : 0 < left) (o : Outcome) (e : says q o ≡ settle have (walkBack a (wholeAt q t at))) where
+    abbrev d : Said
+    d = says q o
+
     one : left ≡ suc (left - 1)
     one = omega arith
 
     -- what this cut gives back is covered: the others go on with what it left
-    pub cuts-turn : d .verdict ≡ Covered → CutsLeft a q t from k fresh (d .allowance) (at + q) (left - 1) (i + 1)
+    pub cuts-turn : o .verdict ≡ Covered → CutsLeft a q t from k fresh (o .allowance) (at + q) (left - 1) (i + 1)
     cuts-turn v =
         record {
           room = cuts.room at left (left - 1) q (length t) one (x .room) .1;
@@ -87,9 +95,10 @@ module _ {a : Difference} {q : ℕ} {t : List ℕ} {from k : ℕ} {fresh have : 
         }
 
     -- it is not: that is the answer
-    pub cuts-stop : (d .verdict ≡ Covered → ⊥)
-        → (d ≡ settle fresh (walkRegion (restored a (wholesAt q t from k)))) × (i ≡ 1 + stop (fresh .left) (map (walkBack a) (wholesAt q t from k)))
-    cuts-stop v = (
-      said-stop have _ _ d e v ∙ sym (x .walked ∙ ap (settle have) (restored-cut a q t at left (left - 1) one)),
-      sym (x .stops ∙ rw (backs-cut a q t at left (left - 1) one, stop-decided have _ d e v (map (walkBack a) (wholesAt q t (at + q) (left - 1)))) (add-zero _)),
-    )
+    pub cuts-stop : (o .verdict ≡ Covered → ⊥) → Backs q fresh a (wholesAt q t from k) (record { outcome = o; index = i })
+    cuts-stop v =
+        let others = map (walkBack a) (wholesAt q t (at + q) (left - 1)) in
+        record {
+          outcome = said-stop have _ _ d e v ∙ sym (x .walked ∙ ap (settle have) (restored-cut a q t at left (left - 1) one));
+          index = sym (x .stops ∙ rw (backs-cut a q t at left (left - 1) one, stop-decided have _ d e v others) (add-zero _));
+        }

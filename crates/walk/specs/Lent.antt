@@ -3,10 +3,7 @@
 --   lessCuts q s f t g == the cuts of the first piece of "s less t": those of s, and then the base of t
 use Prim.Native.Nat.{ℕ, _≤_}
 use mathlib.Core.List.{List, [], _∷_, _++_}
-use mathlib.Core.Bool.{cond}
-use Rattle.model.specs.Cube.{Cube, meet, shares}
-use Rattle.model.specs.Difference.{Difference, less}
-use Rattle.model.specs.Walk.{nothing, Found, walk}
+use Rattle.model.specs.Cube.{Cube}
 use Rattle.format.specs.Limits.{widestCube}
 use Rattle.region.specs.declared.front.Front.{Front}
 use Rattle.region.specs.Front.{Stands, wholeDifference}

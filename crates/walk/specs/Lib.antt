@@ -1,3 +1,4 @@
 -- The words of the walk's contracts.
 pub mod Lent
+pub mod Ending
 pub mod Tell

@@ -1,16 +1,13 @@
 // Whether no header is in a difference or a region, or one that is.
 ghost use mathlib.Core.Path.{_≡_};
 ghost use Prim.Native.Nat.{_+_, _^_, _≤_, _<_};
-ghost use mathlib.Core.List.{map};
 ghost use lib.ListN.{length};
-ghost use Rattle.model.specs.Walk.{walk, walkRegion, stop};
-ghost use Rattle.model.specs.Padding.{padFound};
-ghost use Rattle.format.specs.Bytes.{cubeLen, unused};
+ghost use Rattle.format.specs.Bytes.{cubeLen};
 ghost use Rattle.format.specs.Records.{widthOf};
 ghost use Rattle.format.specs.Files.{readFile, faultNumber, regionIn};
 ghost use Rattle.format.specs.Told.{over};
 ghost use Rattle.format.specs.Calls.{diff-empty, region-empty};
-ghost use Rattle.visits.specs.Settle.{settle, says};
+ghost use Rattle.walk.specs.Ending.{Empties};
 use super::record::walk_record;
 use super::stop::Stop;
 use super::stop::all_covered;
@@ -49,8 +46,7 @@ pub fn diff_empty(w: usize, s: &[u8], allowance: u32, out: &mut [u8]) -> Answer
 // Walks the differences of an accepted file, whose cubes have q bytes, one after another on one allowance, up to the first that is not covered.
 fn walk_file(q: usize, s: &[u8], a: Allowance) -> Stop
     requires { ⌜ (q ≡ cubeLen (widthOf (now s))) × (faultNumber (readFile (now s)) ≡ 0) × (a .left + a .spent < 2 ^ 32) ⌝ }
-    ensures outcome { λ r. ⌜ says q (r .outcome) ≡ settle a (padFound (unused (widthOf (now (s .entry)))) (walkRegion (regionIn (now (s .entry))))) ⌝ }
-    ensures index { λ r. ⌜ r .index ≡ stop (a .left) (map walk (regionIn (now (s .entry)))) ⌝ }
+    ensures { λ r. ⌜ Empties q a (widthOf (now (s .entry))) (regionIn (now (s .entry))) r ⌝ }
 {
     let mut have = a;
     let mut at = first_at(s);

@@ -117,7 +117,8 @@ module _ (s : List ℕ) (n : ℕ) where
   unfolding region-empty
   region-count-at-most-ceilings room =
       let r = regionIn s in
-      at-most (ceilings r) _ (omega arith) (λ sound fits. omega (arith, count-at-most-pieces (widthOf s) n (stop n (map walk r)) (walkRegion r), pieces-at-most-ceilings r))
+      at-most (ceilings r) _ (omega arith)
+      (λ sound fits. omega (arith, count-at-most-pieces (widthOf s) n (stop n (map walk r)) (walkRegion r), pieces-at-most-ceilings r))
 
 -- DIFF_IN. "yes is inclusion, no shows a header in A and outside B"
 pub diff-in-promise : Promise diff-in-call.Kinds.ps diff-in-call.Kinds.r diff-in-call.Reads.Asked diff-in-call.Reads.Learnt

@@ -18,7 +18,8 @@ returns : tie.Need-returns
 unfolding question
 returns c =
     let x = c .before .before .before .before .args in
-    (c .refused .ensures ∙ ap (λ (t : Told). t .answer) (reached 0 _ (c .before .if1 .taken)), ap (λ (t : Told). over (x .header .now) (t .bytes)) (reached 0 _ (c .before .if1 .taken)))
+    let e = reached 0 _ (c .before .if1 .taken) in
+    (c .refused .ensures ∙ ap (λ (t : Told). t .answer) e, ap (λ (t : Told). over (x .header .now) (t .bytes)) e)
 
 region-empty-requires : tie.Need-region-empty-requires
 region-empty-requires c κs = search needs

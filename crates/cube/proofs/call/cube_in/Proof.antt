@@ -24,7 +24,9 @@ returns-2 : tie.Need-returns-2
 returns-2 c =
     let s = c .before .before .before in
     let x = s .before .before .before .before .before .args in
-    c .yes .ensures ∙ ap (λ (t : Told). t .answer) (in-yes (x .w) (x .a .now) (x .b .now) _ (s .before .before .pair-refusal .ensures) (s .if1 .left) (sym (c .before .before .lies-in .ensures) ∙ c .before .if2 .taken))
+    let held = sym (c .before .before .lies-in .ensures) ∙ c .before .if2 .taken in
+    c .yes .ensures
+    ∙ ap (λ (t : Told). t .answer) (in-yes (x .w) (x .a .now) (x .b .now) _ (s .before .before .pair-refusal .ensures) (s .if1 .left) held)
 
 no-requires : tie.Need-no-requires
 no-requires c κs = search needs
@@ -33,7 +35,9 @@ returns-3 : tie.Need-returns-3
 returns-3 c =
     let s = c .before .before .before in
     let x = s .before .before .before .before .before .args in
-    c .no .ensures ∙ ap (λ (t : Told). t .answer) (in-no (x .w) (x .a .now) (x .b .now) _ (s .before .before .pair-refusal .ensures) (s .if1 .left) (sym (c .before .before .lies-in .ensures) ∙ c .before .if2 .left))
+    let unheld = sym (c .before .before .lies-in .ensures) ∙ c .before .if2 .left in
+    c .no .ensures
+    ∙ ap (λ (t : Told). t .answer) (in-no (x .w) (x .a .now) (x .b .now) _ (s .before .before .pair-refusal .ensures) (s .if1 .left) unheld)
 
 pub cube-in-spec : {M : Type 1} → statement M
 cube-in-spec =

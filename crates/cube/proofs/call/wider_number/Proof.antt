@@ -24,7 +24,9 @@ returns-2 : tie.Need-returns-2
 returns-2 c =
     let s = c .before .before .before in
     let x = s .before .before .before .before .before .args in
-    c .yes .ensures ∙ ap (λ (t : Told). t .answer) (number-first (x .w) (x .a .now) (x .b .now) _ (s .before .before .pair-refusal .ensures) (s .if1 .left) (sym (c .before .before .lies-in .ensures) ∙ c .before .if2 .taken))
+    let held = sym (c .before .before .lies-in .ensures) ∙ c .before .if2 .taken in
+    c .yes .ensures
+    ∙ ap (λ (t : Told). t .answer) (number-first (x .w) (x .a .now) (x .b .now) _ (s .before .before .pair-refusal .ensures) (s .if1 .left) held)
 
 lies-in-requires-2 : tie.Need-lies-in-requires-2
 lies-in-requires-2 c κs = search needs
@@ -36,7 +38,9 @@ returns-3 : tie.Need-returns-3
 returns-3 c =
     let s = c .before .before .before .before .before in
     let x = s .before .before .before .before .before .args in
-    c .yes2 .ensures ∙ ap (λ (t : Told). t .answer) (number-second (x .w) (x .a .now) (x .b .now) _ (s .before .before .pair-refusal .ensures) (s .if1 .left) (sym (c .before .before .lies-in2 .ensures) ∙ c .before .if3 .taken))
+    let held = sym (c .before .before .lies-in2 .ensures) ∙ c .before .if3 .taken in
+    c .yes2 .ensures
+    ∙ ap (λ (t : Told). t .answer) (number-second (x .w) (x .a .now) (x .b .now) _ (s .before .before .pair-refusal .ensures) (s .if1 .left) held)
 
 no-requires : tie.Need-no-requires
 no-requires c κs = search needs

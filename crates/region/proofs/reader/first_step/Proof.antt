@@ -1,4 +1,6 @@
--- `region::reader::first_step` meets its contract: a walk of its MIR, by hand. The reader that `begin_reading` returns is held in a local and passed to `step_on`, and of what that returns the answer and the place are copied out. All that the proof knows of `begin_reading` and of `step_on` is that each meets its contract.
+-- `region::reader::first_step` meets its contract: a walk of its MIR, by hand. The reader that `begin_reading`
+-- returns is held in a local and passed to `step_on`, and of what that returns the answer and the place are copied
+-- out. All that the proof knows of `begin_reading` and of `step_on` is that each meets its contract.
 -- The machine values that they return are stored as they are. In a local of a body MIR erases the lifetime of a struct's type, so each value is shown to have the type at `erased`: what the struct owns does not say the lifetime's name.
 use mathlib.Core.Path.{_≡_, refl, ap, _∙_, subst}
 use Prim.Native.Nat.{ℕ, _<_, _^_}

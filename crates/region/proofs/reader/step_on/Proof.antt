@@ -1,4 +1,6 @@
--- `region::reader::step_on` meets its contract: a walk of its MIR, by hand. The reader is taken apart, `read_on` is called on the file and the place, and the reader with the next place is made, inside the result. All that the proof knows of `read_on` is that it meets its contract.
+-- `region::reader::step_on` meets its contract: a walk of its MIR, by hand. The reader is taken apart, `read_on` is
+-- called on the file and the place, and the reader with the next place is made, inside the result. All that the proof
+-- knows of `read_on` is that it meets its contract.
 -- The reader is Copy: what it owns is had three times. One copy is kept whole for the exit, of one what the file owns goes to the callee, beside the lifetime's token, which comes back, and of one, with the next place's facts put in, is what the result's reader owns.
 use mathlib.Core.Path.{_≡_, refl, ap, subst}
 use Prim.Native.Nat.{_<_, _^_}

@@ -11,7 +11,9 @@ use Rattle.region.proofs.views.stretch_of.Statement.{statement}
 use Rattle.region.proofs.views.stretch_of.Tie as tie
 
 -- where the call goes on to the end, the difference has such a cube, and the cube lies within the file
-size : (c : tie.After-yes) → let s = c .before .before .before .before .before .before .before .before .before .before .before .before .args .s .now in c .before .cube-len .result ≡ cubeLen (widthOf s)
+size : (c : tie.After-yes)
+    → let s = c .before .before .before .before .before .before .before .before .before .before .before .before .args .s .now in
+    c .before .cube-len .result ≡ cubeLen (widthOf s)
 size c =
     let check-file = c .before .before .before .before .before .before .before .before .before .before .check-file in
     c .before .cube-len .ensures ∙ ap cubeLen (check-file .ensures .width)

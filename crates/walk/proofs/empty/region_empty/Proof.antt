@@ -32,7 +32,8 @@ unfolding region-empty
 returns c =
     let x = c .before .before .before .before .before .before .args in
     let f = c .before .before .before .check-file .ensures in
-    let k = walking (widthOf (x .s .now)) (x .allowance) (length (x .out .now)) (stop (x .allowance) (map walk (regionIn (x .s .now)))) (walkRegion (regionIn (x .s .now))) in
+    let r = regionIn (x .s .now) in
+    let k = walking (widthOf (x .s .now)) (x .allowance) (length (x .out .now)) (stop (x .allowance) (map walk r)) (walkRegion r) in
     silent-out (c .fault .ensures) (file-refused (x .s .now) 1 k _ _ (f .number) (f .offset) (c .before .if1 .taken))
 
 header-len-requires : tie.Need-header-len-requires
@@ -76,11 +77,11 @@ returns-3 c =
     let header-len = c .before .before .before .before .before .before .before .header-len in
     let f = c .before .before .before .before .before .before .before .before .before .before .check-file .ensures in
     let x = c .before .before .before .before .before .before .before .before .before .before .before .before .before .args in
-    let e = rw (cube-len .ensures ∙ ap cubeLen (f .width)) at (v .ensures .0) in
+    let e = rw (cube-len .ensures ∙ ap cubeLen (f .width)) at (v .ensures) in
     told-out (x .out .now) (tell .ensures .0) (tell .ensures .1)
     (ap (λ (w : ℕ). toldOf w (v .result)) (f .width)
     ∙ region-told (x .s .now) (x .allowance) (length (x .out .now)) (accepted (c .before .before .before .before .before .before .before .before))
-    (omega (arith, if2 .left, header-len .ensures, f .width)) (v .result) e (v .ensures .1))
+    (omega (arith, if2 .left, header-len .ensures, f .width)) (v .result) e)
 
 pub region-empty-spec : {M : Type 1} → statement M
 region-empty-spec =

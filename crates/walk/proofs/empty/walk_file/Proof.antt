@@ -1,15 +1,13 @@
 -- `walk::empty::walk_file` meets its contract. The loop's invariant: what is left to walk, and the differences before it are covered.
 use Prim.Native.Nat.{_-_}
 use native.Mathlib.Omega.{arith}
-use mathlib.Core.Path.{_∙_}
 use lib.ListN.{length}
 use borrow.Author.Needs.{needs}
 use Rattle.format.proofs.Filing.{file-of}
 use Rattle.region.proofs.Onward.{onward-record}
 use Rattle.region.proofs.Fronts.{front-next, front-stands}
 use Rattle.visits.proofs.Turn.{is-covered, not-covered}
-use Rattle.visits.specs.Settle.{says}
-use Rattle.walk.proofs.Emptied.{FileLeft, covered-says, file-begun, file-turn, file-stop, file-ended}
+use Rattle.walk.proofs.Emptied.{FileLeft, file-begun, file-turn, file-stop, file-ended}
 use Rattle.walk.proofs.empty.walk_file.Statement.{statement}
 use Rattle.walk.proofs.empty.walk_file.Tie as tie
 
@@ -41,10 +39,9 @@ enum-told c = search needs
 
 returns : tie.Need-returns Inv-loop μ-loop
 returns c =
-    let x = c .before .before .before .before .before .before .before .args in
     let l = c .before .before .before .before .loop in
     let v = c .before .walk-record in
-    file-stop (l .inv) (c .before .before .before .loop-test .taken) (c .before .before .front-at .ensures .0) (says (x .q) (v .result)) (v .ensures)
+    file-stop (l .inv) (c .before .before .before .loop-test .taken) (c .before .before .front-at .ensures .0) (v .result) (v .ensures)
     (not-covered (v .result .verdict) (c .match .keys2))
 
 add-i : tie.Need-add-i Inv-loop μ-loop
@@ -62,10 +59,11 @@ loop-less c =
 
 loop-again : tie.Need-loop-again Inv-loop μ-loop
 loop-again c =
-    let x = c .before .before .before .before .before .before .before .before .before .args in
     let l = c .before .before .before .before .before .before .loop in
+    let goes = c .before .before .before .before .before .loop-test in
+    let front-at = c .before .before .before .before .front-at in
     let v = c .before .before .before .walk-record in
-    file-turn (l .inv) (c .before .before .before .before .before .loop-test .taken) (c .before .before .before .before .front-at .ensures .0) (says (x .q) (v .result)) (v .ensures)
+    file-turn (l .inv) (goes .taken) (front-at .ensures .0) (v .result) (v .ensures)
     (is-covered (v .result .verdict) (c .before .before .match .keys1))
 
 all-covered-requires : tie.Need-all-covered-requires Inv-loop μ-loop
@@ -73,10 +71,7 @@ all-covered-requires c κs = search needs
 
 returns-2 : tie.Need-returns-2 Inv-loop μ-loop
 returns-2 c =
-    let x = c .before .before .before .before .before .args in
-    let l = c .before .before .loop in
-    let e = file-ended (l .inv) (c .before .loop-test .left) in
-    (covered-says (x .q) (l .have) (c .all-covered .result) (c .all-covered .ensures) ∙ e .0, e .1)
+    file-ended (c .before .before .loop .inv) (c .before .loop-test .left) (c .all-covered .result) (c .all-covered .ensures)
 
 pub walk-file-spec : {M : Type 1} → statement M
 walk-file-spec =

@@ -89,8 +89,7 @@ returns-3 c =
     let v = c .before .before .before .before .walk-less in
     told-out (x .out .now) (c .before .before .tell .ensures .0) (c .before .before .tell .ensures .1)
     (in-told (x .w) (x .s .now) (x .t .now) (x .allowance) (length (x .out .now)) _ (two-refusal .ensures) (if1 .left)
-    (omega (arith, if2 .left, header-len .ensures)) (front-at .ensures .0) (front-at2 .ensures .0) (v .result)
-    (rw (cube-len .ensures) at (v .ensures .0)) (rw (cube-len .ensures) at (v .ensures .1)))
+    (omega (arith, if2 .left, header-len .ensures)) (front-at .ensures .0) (front-at2 .ensures .0) (v .result) (rw (cube-len .ensures) at (v .ensures)))
 
 pub diff-in-spec : {M : Type 1} → statement M
 diff-in-spec =

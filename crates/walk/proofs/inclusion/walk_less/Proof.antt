@@ -21,7 +21,7 @@ returns c =
     let v = c .before .walk-first in
     let d = says (x .q) (v .result) in
     let k = not-covered (v .result .verdict) (c .match .keys2) in
-    (said-stop (x .a) _ _ d (v .ensures) k, sym (stop-decided (x .a) _ d (v .ensures) k _))
+    record { outcome = said-stop (x .a) _ _ d (v .ensures) k; index = sym (stop-decided (x .a) _ d (v .ensures) k _) }
 
 walk-restored-requires : tie.Need-walk-restored-requires
 walk-restored-requires c κs =
@@ -34,10 +34,11 @@ returns-2 c =
     let x = c .before .before .before .before .before .before .args in
     let v = c .before .before .before .walk-first in
     let d = says (x .q) (v .result) in
-    let k = is-covered (v .result .verdict) (c .before .before .match .keys1) in (
-      c .walk-restored .ensures .0 ∙ sym (said-on (x .a) _ _ d (v .ensures) k),
-      c .walk-restored .ensures .1 ∙ one-suc _ ∙ sym (stop-covered (x .a) _ d (v .ensures) k _),
-    )
+    let k = is-covered (v .result .verdict) (c .before .before .match .keys1) in
+    record {
+      outcome = c .walk-restored .ensures .outcome ∙ sym (said-on (x .a) _ _ d (v .ensures) k);
+      index = c .walk-restored .ensures .index ∙ one-suc _ ∙ sym (stop-covered (x .a) _ d (v .ensures) k _);
+    }
   where
     one-suc : (n : ℕ) → 1 + n ≡ suc n
     one-suc n = omega arith

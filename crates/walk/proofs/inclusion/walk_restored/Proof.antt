@@ -1,14 +1,11 @@
 -- `walk::inclusion::walk_restored` meets its contract. The loop's invariant: what is left to walk, and the pieces before it are covered.
 use Prim.Native.Nat.{_+_, _-_, _*_, _≤_}
 use native.Mathlib.Omega.{arith}
-use mathlib.Core.Path.{_∙_}
 use lib.ListN.{length}
 use borrow.Author.Needs.{needs}
 use Rattle.region.specs.Front.{wholeDifference}
 use Rattle.visits.proofs.Turn.{is-covered, not-covered}
 use Rattle.visits.proofs.Cuts.{room}
-use Rattle.visits.specs.Settle.{says}
-use Rattle.walk.proofs.Emptied.{covered-says}
 use Rattle.walk.proofs.Restoring.{CutsLeft, cuts-begun, cuts-turn, cuts-stop, cuts-ended}
 use Rattle.walk.proofs.inclusion.walk_restored.Statement.{statement}
 use Rattle.walk.proofs.inclusion.walk_restored.Tie as tie
@@ -40,9 +37,8 @@ enum-told c = search needs
 
 returns : tie.Need-returns Inv-loop μ-loop
 returns c =
-    let x = c .before .before .before .before .before .before .before .args in
     let v = c .before .walk-back in
-    cuts-stop (c .before .before .before .loop .inv) (c .before .before .loop-test .taken) (says (x .q) (v .result)) (v .ensures)
+    cuts-stop (c .before .before .before .loop .inv) (c .before .before .loop-test .taken) (v .result) (v .ensures)
     (not-covered (v .result .verdict) (c .match .keys2))
 
 add-at-2 : tie.Need-add-at-2 Inv-loop μ-loop
@@ -59,9 +55,10 @@ loop-less c = search needs
 
 loop-again : tie.Need-loop-again Inv-loop μ-loop
 loop-again c =
-    let x = c .before .before .before .before .before .before .before .before .before .args in
+    let l = c .before .before .before .before .before .loop in
+    let goes = c .before .before .before .before .loop-test in
     let v = c .before .before .before .walk-back in
-    cuts-turn (c .before .before .before .before .before .loop .inv) (c .before .before .before .before .loop-test .taken) (says (x .q) (v .result)) (v .ensures)
+    cuts-turn (l .inv) (goes .taken) (v .result) (v .ensures)
     (is-covered (v .result .verdict) (c .before .before .match .keys1))
 
 all-covered-requires : tie.Need-all-covered-requires Inv-loop μ-loop
@@ -69,10 +66,7 @@ all-covered-requires c κs = search needs
 
 returns-2 : tie.Need-returns-2 Inv-loop μ-loop
 returns-2 c =
-    let x = c .before .before .before .before .before .before .args in
-    let l = c .before .before .loop in
-    let e = cuts-ended (l .inv) (c .before .loop-test .left) in
-    (covered-says (x .q) (l .have) (c .all-covered .result) (c .all-covered .ensures) ∙ e .0, e .1)
+    cuts-ended (c .before .before .loop .inv) (c .before .loop-test .left) (c .all-covered .result) (c .all-covered .ensures)
 
 pub walk-restored-spec : {M : Type 1} → statement M
 walk-restored-spec =
