@@ -1,5 +1,5 @@
 -- `region::asking::ask_file` meets its contract. The loop's invariant (`Asking`): the records passed are
--- accepted, and `held` is whether the header is in one of them.
+-- accepted, and `holder` is the first of them that holds the header.
 use Prim.Native.Nat.{_-_}
 use native.Mathlib.Omega.{arith}
 use mathlib.Core.Bool.{false}
