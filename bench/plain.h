@@ -1,4 +1,4 @@
-/* The baseline: the written walk and membership in straightforward C, by bytes, with every refusal of document 01. */
+/* The baseline: the written walk and membership in plain C, by bytes, with every refusal of docs/FORMAT.md. */
 #ifndef PLAIN_H
 #define PLAIN_H
 

@@ -5,8 +5,8 @@
 #include <stddef.h>
 #include <stdint.h>
 
-/* A result: its number (document 01's table), the operand at fault (1, 2, else 0), the offset of the record at fault,
-   the count of pieces, and the bytes written. Parts that do not apply are 0. */
+/* A result: its number (docs/FORMAT.md, 31 to 49), the operand at fault (1, 2, else 0), the offset of the record at
+   fault, the count of pieces, and the bytes written. A part that has nothing to say is 0. */
 struct permit_answer {
     uint8_t number;
     uint8_t operand;

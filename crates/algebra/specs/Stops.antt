@@ -26,11 +26,11 @@ use Rattle.algebra.specs.declared.stop.Stop.{Stop}
 use Rattle.algebra.specs.declared.stop.Operation.{Operation}
 use Rattle.algebra.specs.declared.stop.Operation.the-variants.{Tidy, Intersect, Less}
 
--- "First a less A and then b"
+-- FORMAT 75: the base b, as one cut more
 abbrev pub baseStop : ℕ → ℕ → Stop
 baseStop q x = record { meets = false; cube = 0; from = x; cuts = 1; next = x + q }
 
--- "then, for j from 1 to k, a meet bj less A"
+-- FORMAT 76: a cut bj, to meet a
 abbrev pub cutStop : ℕ → ℕ → Stop
 cutStop q x = record { meets = true; cube = x; from = 0; cuts = 0; next = x + q }
 

@@ -1,5 +1,4 @@
--- The forms of a result. "A result has a number, the operand (1, 2, else 0), an offset, a count of pieces and bytes written. Parts that do not
--- apply are 0."
+-- The forms of a result: which of its five parts say something; the others are 0 (FORMAT 26).
 --   accepted           == no refusal: what the tests of an operand give where none of them holds
 --   yes, no            == the answer to a question that shows and counts nothing
 --   refused n          == the refusal n that is of no operand

@@ -1,5 +1,5 @@
-// The result of every call, by value, with document 01's five parts. It is made only by the functions below, which have the same names in
-// specs/, so that a part can be added here and nowhere else.
+// The result of every call, by value, with the five parts of FORMAT 26. It is made only by the functions below, which
+// have the same names in specs/, so that a part can be added here and nowhere else.
 ghost use mathlib.Core.Path.{_≡_};
 ghost use Rattle.answer.specs.Answer.{accepted, yes, no, refused, fault, counted, showing, wrote, placed};
 

@@ -6,7 +6,7 @@ use Prim.Native.Nat.{ℕ}
 use denote.Ref.{RefT, now, ptr}
 use Rattle.format.specs.Calls.{first, second, neither, wider}
 
--- "Of two cubes, the wider comes back as the lent bytes themselves" .. "A refusal or no such cube gives a stretch of length 0."
+-- FORMAT 89, 90
 pub record WiderIs (w : ℕ) (a b r : RefT (List ℕ)) : Type 0 where
   pub first : wider w (now a) (now b) ≡ first → r ≡ a
   pub second : wider w (now a) (now b) ≡ second → r ≡ b

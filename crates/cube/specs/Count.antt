@@ -1,4 +1,4 @@
--- How many positions a cube leaves free. "The work keeps two byte tables of 256 numbers each: the codes 3 in a byte, and whether it holds a code 0."
+-- How many positions a cube leaves free: one of the two byte tables counts them of each byte (FORMAT 19).
 --   freeCount c    == the number of codes `free` in c
 use Prim.Native.Nat.{ℕ, suc}
 use mathlib.Core.List.{[], _∷_}

@@ -81,7 +81,8 @@ pub fn wider_number(w: usize, a: &[u8], b: &[u8]) -> Answer
     Answer::no()
 }
 
-// The wider of two cubes, as the lent bytes themselves: the first if it holds the second, else the second if it holds the first, else nothing.
+// The wider of two cubes, as the very bytes lent: the first where the second lies in it, else the second where the
+// first lies in it, else nothing (FORMAT 89, 90).
 pub fn wider<'a>(w: usize, a: &'a [u8], b: &'a [u8]) -> &'a [u8]
     ensures { λ r. ⌜ WiderIs w (a .entry) (b .entry) r ⌝ }
 {

@@ -6,7 +6,7 @@ use Rattle.answer.specs.Answer.{accepted, refused}
 use Rattle.format.specs.Rows.{Rows, last, row, then, below, is}
 use Rattle.format.specs.Told.{widthTests}
 
--- "A field starts at s and has n positions, n at least 1, s + n at most W."
+-- FORMAT 78
 abbrev pub fieldTests : ℕ → ℕ → ℕ → Rows Answer
 fieldTests w s n =
     then (widthTests w)

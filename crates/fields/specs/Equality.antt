@@ -13,11 +13,11 @@ use Rattle.format.specs.Limits.{mostCuts}
 use Rattle.format.specs.Bytes.{cubeLen}
 use Rattle.format.specs.Records.{cubesBytes, frontBytes}
 
--- "Different starts and n above 32 give 18."
+-- FORMAT 85
 abbrev pub mostPairs : ℕ
 mostPairs = mostCuts / 2
 
--- "Equal starts give no cuts."
+-- FORMAT 83
 abbrev pub pairs : ℕ → ℕ → ℕ → ℕ
 pairs p q n = cond (eqb p q) 0 n
 

@@ -1,5 +1,5 @@
 -- Cubes as bytes: what an accepted cube's bytes read as, and that reading and writing undo one another.
---   length-codes, code-at    how many codes bytes have, and which one stands at a position, in document 01's words
+--   length-codes, code-at    how many codes bytes have, and which one stands at a position (FORMAT 16)
 --   fault-solid, fault-free  what an accepted cube is: no code 0 at a position, every unused place 3
 --   lent-length, lent-cube   what an accepted lent cube is: of its length, and an accepted cube
 --   lent-fault               bytes of a cube's length are lent with the cube's fault
@@ -32,7 +32,7 @@ pub length-codes : (bs : List ℕ) → length (codes bs) ≡ 4 * length bs
 length-codes [] = refl
 length-codes (b ∷ bs) = let ih = length-codes bs in omega arith
 
--- "position p has weight 4^(3 - p mod 4) in byte p div 4"
+-- FORMAT 16: a position's byte, and its weight there
 pub code-at : (bs : List ℕ) (p : ℕ) → p < 4 * length bs → getD (codes bs) p none ≡ codeOf (getD bs (p / 4) 0 / 4 ^ (3 - p % 4) % 4)
 code-at [] p h = absurd (omega arith)
 code-at (b ∷ bs) zero h = refl

@@ -1,5 +1,5 @@
--- Document 01's figures P1 to P10.
---   figures    each of them, as one list about the definitions
+-- The figures P1 to P10 (FORMAT 129 to 138).
+--   figures    each of them, as one list about the definitions (FORMAT 127)
 use mathlib.Core.Path.{_≡_, refl}
 use mathlib.Core.List.{[], _∷_}
 use Rattle.model.specs.Cube.{v0, v1, free}

@@ -1,5 +1,5 @@
 -- Headers as bytes: which bit stands at a position, and that a header written is accepted and read again.
---   length-bits, bit-at      how many bits bytes have, and which one stands at a position, in document 01's words
+--   length-bits, bit-at      how many bits bytes have, and which one stands at a position (FORMAT 13)
 --   bits-written             the bytes written hold the header, with zeros behind it
 --   header-length, header-bytes    how many bytes are written, and that they are bytes
 --   read-written             the header written is read again
@@ -20,7 +20,7 @@ pub length-bits : (bs : List ℕ) → length (bits bs) ≡ 8 * length bs
 length-bits [] = refl
 length-bits (b ∷ bs) = let ih = length-bits bs in omega arith
 
--- "position p has weight 2^(7 - p mod 8) in byte p div 8"
+-- FORMAT 13: a position's byte, and its weight there
 pub bit-at : (bs : List ℕ) (p : ℕ) → p < 8 * length bs → getD (bits bs) p false ≡ bitOf (getD bs (p / 8) 0 / 2 ^ (7 - p % 8) % 2)
 bit-at [] p h = absurd (omega arith)
 bit-at (b ∷ bs) zero h = refl

@@ -62,7 +62,7 @@ file-written w r room x g some narrow p =
 in-written : {w : ℕ} (r : Region) {bs : List ℕ} → Written w (tidyRegion r) bs → (h : Header) → inRegion (regionIn bs) h ≡ inRegion r h
 in-written r f h = rw (f .region) (in-tidyRegion r h)
 
--- "a tidy one the same bytes"
+-- FORMAT 120: a tidy file keeps its bytes
 pub tidy-same : (s : List ℕ) (room : ℕ) → Bytes s → faultNumber (readFile s) ≡ 0 → tidyRegion (regionIn s) ≡ regionIn s → length s ≤ room
     → region-tidy s room ≡ record { answer = wrote (length s); bytes = s }
 unfolding region-tidy

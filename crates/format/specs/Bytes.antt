@@ -29,13 +29,15 @@ abbrev pub Bytes : List ℕ → Type 0
 Bytes [] = Unit {0}
 Bytes (b ∷ bs) = (b < 256) × Bytes bs
 
--- "A header takes ceil(W/8) bytes" .. "A cube takes ceil(W/4) bytes"
+-- FORMAT 12
 abbrev pub headerLen : ℕ → ℕ
 headerLen w = (w + 7) / 8
 
+-- FORMAT 15
 abbrev pub cubeLen : ℕ → ℕ
 cubeLen w = (w + 3) / 4
 
+-- FORMAT 18
 abbrev pub unused : ℕ → ℕ
 unused w = 4 * cubeLen w - w
 
@@ -43,7 +45,7 @@ abbrev pub bitOf : ℕ → Bool
 bitOf zero = false
 bitOf (suc n) = true
 
--- "position p has weight 2^(7 - p mod 8) in byte p div 8"
+-- FORMAT 13
 abbrev pub bits : List ℕ → Header
 bits [] = []
 bits (b ∷ bs) =
@@ -56,7 +58,7 @@ readHeader w bs = take w (bits bs)
 abbrev pub weigh : ℕ → Bool → ℕ
 weigh n b = cond b n 0
 
--- zero where there are fewer than eight bits
+-- FORMAT 13; zero where there are fewer than eight bits (FORMAT 14)
 abbrev pub octet : Header → ℕ
 octet h =
     weigh 128 (getD h 0 false) + weigh 64 (getD h 1 false) + weigh 32 (getD h 2 false) + weigh 16 (getD h 3 false)
@@ -66,6 +68,7 @@ unfoldable pub headerBytes : ℕ → Header → List ℕ
 headerBytes zero h = []
 headerBytes (suc n) h = octet h ∷ headerBytes n (drop 8 h)
 
+-- FORMAT 12 to 14
 abbrev pub writeHeader : Header → List ℕ
 writeHeader h = headerBytes (headerLen (length h)) h
 
@@ -73,20 +76,21 @@ abbrev pub anyBit : Header → Bool
 anyBit [] = false
 anyBit (b ∷ h) = b || anyBit h
 
--- "Codes: 1 is the value 0, 2 is the value 1, 3 is free."
+-- FORMAT 17
 abbrev pub codeOf : ℕ → Code
 codeOf zero = none
 codeOf (suc zero) = v0
 codeOf (suc (suc zero)) = v1
 codeOf (suc (suc (suc n))) = free
 
+-- FORMAT 17
 abbrev pub numberOf : Code → ℕ
 numberOf none = 0
 numberOf v0 = 1
 numberOf v1 = 2
 numberOf free = 3
 
--- "position p has weight 4^(3 - p mod 4) in byte p div 4"
+-- FORMAT 16
 abbrev pub codes : List ℕ → Cube
 codes [] = []
 codes (b ∷ bs) = codeOf (b / 64 % 4) ∷ codeOf (b / 16 % 4) ∷ codeOf (b / 4 % 4) ∷ codeOf (b % 4) ∷ codes bs
@@ -94,7 +98,7 @@ codes (b ∷ bs) = codeOf (b / 64 % 4) ∷ codeOf (b / 16 % 4) ∷ codeOf (b / 4
 unfoldable pub readCube : ℕ → List ℕ → Cube
 readCube w bs = take w (codes bs)
 
--- the byte of the first four codes; "Unused places hold 3."
+-- FORMAT 16: the byte of the first four codes; 3 where there is none (FORMAT 18)
 abbrev pub quad : Cube → ℕ
 quad c = 64 * numberOf (getD c 0 free) + 16 * numberOf (getD c 1 free) + 4 * numberOf (getD c 2 free) + numberOf (getD c 3 free)
 
@@ -102,6 +106,7 @@ unfoldable pub cubeBytes : ℕ → Cube → List ℕ
 cubeBytes zero c = []
 cubeBytes (suc n) c = quad c ∷ cubeBytes n (drop 4 c)
 
+-- FORMAT 15 to 18
 abbrev pub writeCube : Cube → List ℕ
 writeCube c = cubeBytes (cubeLen (length c)) c
 
@@ -115,7 +120,7 @@ abbrev pub allFree : Cube → Bool
 allFree [] = true
 allFree (x ∷ c) = isFree x && allFree c
 
--- "13: a cube holds code 0 at a position", "14: an unused place is not 3"
+-- FORMAT 17, 38, 39, in the order of 60
 abbrev pub cubeRows : ℕ → List ℕ → Rows ℕ
 cubeRows w bs =
     row (so (not (solid (readCube w bs)))) 13
@@ -125,7 +130,7 @@ cubeRows w bs =
 unfoldable pub cubeFault : ℕ → List ℕ → ℕ
 cubeFault w bs = outcome (cubeRows w bs)
 
--- "A lent cube's order is 12, 13, 14."
+-- FORMAT 37, in the order of 61
 abbrev pub lentRows : ℕ → List ℕ → Rows ℕ
 lentRows w bs =
     row (isnt (length bs) (cubeLen w)) 12

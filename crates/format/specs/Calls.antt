@@ -1,6 +1,5 @@
--- One definition for each public call: everything that it gives back, of the bytes and numbers lent. `room` is the length of the buffer lent for
--- writing. "Order: direct W; operand 1; operand 2; 20; header, field (21 before 11) or index; then 18 if any difference of the tidied result has too
--- many cuts, 19, 22."
+-- One definition for each public call: everything that it gives back, of the bytes and numbers lent. `room` is the
+-- length of the buffer lent for writing. The tests come in the order of FORMAT 53 and 54.
 --   cube-meet, cube-in                  == two cubes: the cube of their common headers; whether the first lies in the second
 --   Which                               == what `wider` hands back: the first cube, the second, or neither
 --   wider, wider-number                 == the wider of two cubes, and the number of the separate question
@@ -40,12 +39,11 @@ use Rattle.format.specs.Records.{countAt, baseAt, nextAt, widthOf, first
 use Rattle.format.specs.Files.{readFile, faultNumber, faultOffset, offsets, regionIn}
 use Rattle.format.specs.Told.{Told, silent, twoCubes, wide, lentCube, lentRecord, lentFile, lentBits, lentHeader, yesOr, writing, writingRegion, walking}
 
--- "Membership, emptiness and intersection take differences or regions; a difference or a region may have a difference taken from it; inclusion compares two
--- differences. Intersection takes two of one sort." .. "In "a less b" and "a in b", a is operand 1."
+-- What each operation takes is FORMAT 64; which operand is which, 66.
 
 -- cubes
 
--- "Two lent cubes that share a header meet in the cube written; if they share none the answer is 2 and nothing is written."
+-- FORMAT 67
 unfoldable pub cube-meet : ℕ → List ℕ → List ℕ → ℕ → Told
 cube-meet w a b room =
     outcome
@@ -55,7 +53,7 @@ cube-meet w a b room =
     (row (so (not (shares (readCube w a) (readCube w b)))) (silent no)
     (writing (writeCube (meet (readCube w a) (readCube w b))) room)))))
 
--- "Cube inclusion, first in second, is 1 or 2 and writes nothing."
+-- FORMAT 68
 unfoldable pub cube-in : ℕ → List ℕ → List ℕ → Told
 cube-in w a b =
     outcome
@@ -64,10 +62,11 @@ cube-in w a b =
     (lentCube w b 2
     (yesOr (within (readCube w a) (readCube w b))))))
 
+-- FORMAT 89, 90
 pub data Which : Type 0 where
   first second neither : Which
 
--- "the first if it holds the second, else the second if it holds the first", "A refusal or no such cube gives a stretch of length 0."
+-- FORMAT 89, 90
 unfoldable pub wider : ℕ → List ℕ → List ℕ → Which
 wider w a b =
     outcome
@@ -76,7 +75,7 @@ wider w a b =
     (row (so (within (readCube w a) (readCube w b))) second
     (last neither))))
 
--- "for the wider cube 1, 2 or the cubes' refusal"
+-- FORMAT 92
 unfoldable pub wider-number : ℕ → List ℕ → List ℕ → Told
 wider-number w a b =
     outcome
@@ -85,8 +84,9 @@ wider-number w a b =
     (lentCube w b 2
     (yesOr (within (readCube w b) (readCube w a) || within (readCube w a) (readCube w b))))))
 
--- membership; "The packet broker's C host asks membership and emptiness on plain numbers and byte buffers": of a region, by region-member and region-empty
+-- membership; the C host asks region-member and region-empty (FORMAT 100)
 
+-- FORMAT 64
 unfoldable pub diff-member : ℕ → List ℕ → List ℕ → Told
 diff-member w s h =
     outcome
@@ -95,6 +95,7 @@ diff-member w s h =
     (lentHeader w h
     (yesOr (inDifference (differenceAt w s 0) (readHeader w h))))))
 
+-- FORMAT 64, 65, 100
 unfoldable pub region-member : List ℕ → List ℕ → Told
 region-member s h =
     outcome
@@ -102,14 +103,16 @@ region-member s h =
     (lentHeader (widthOf s) h
     (yesOr (isHeld (firstHolder (regionIn s) (readHeader (widthOf s) h))))))
 
--- what writes region files. "Results are tidied and written as region files"
+-- what writes region files, tidied (FORMAT 71)
 
+-- FORMAT 71
 unfoldable pub region-tidy : List ℕ → ℕ → Told
 region-tidy s room =
     outcome
     (lentFile s 1
     (writingRegion (widthOf s) (tidyRegion (regionIn s)) room))
 
+-- FORMAT 64
 unfoldable pub diff-intersect : ℕ → List ℕ → List ℕ → ℕ → Told
 diff-intersect w s t room =
     outcome
@@ -118,7 +121,7 @@ diff-intersect w s t room =
     (lentRecord w t 2
     (writingRegion w (tidyRegion (intersection (differenceAt w s 0) (differenceAt w t 0))) room))))
 
--- "20: two region files have different W"
+-- FORMAT 64; 20 is FORMAT 45
 unfoldable pub region-intersect : List ℕ → List ℕ → ℕ → Told
 region-intersect s t room =
     outcome
@@ -127,6 +130,7 @@ region-intersect s t room =
     (row (isnt (widthOf s) (widthOf t)) (silent (refused 20))
     (writingRegion (widthOf s) (tidyRegion (intersections (regionIn s) (regionIn t))) room))))
 
+-- FORMAT 64, 66
 unfoldable pub diff-less : ℕ → List ℕ → List ℕ → ℕ → Told
 diff-less w s t room =
     outcome
@@ -135,7 +139,7 @@ diff-less w s t room =
     (lentRecord w t 2
     (writingRegion w (tidyRegion (subtraction (differenceAt w s 0) (differenceAt w t 0))) room))))
 
--- "Beside a region file all is of that file's W"
+-- FORMAT 64, 66; the difference has the file's W (FORMAT 65)
 unfoldable pub region-less : List ℕ → List ℕ → ℕ → Told
 region-less s t room =
     outcome
@@ -145,6 +149,7 @@ region-less s t room =
 
 -- the walk
 
+-- FORMAT 64
 unfoldable pub diff-empty : ℕ → List ℕ → ℕ → ℕ → Told
 diff-empty w s n room =
     outcome
@@ -152,13 +157,14 @@ diff-empty w s n room =
     (lentRecord w s 1
     (walking w n room 0 (walk (differenceAt w s 0)))))
 
+-- FORMAT 64, 100
 unfoldable pub region-empty : List ℕ → ℕ → ℕ → Told
 region-empty s n room =
     outcome
     (lentFile s 1
     (walking (widthOf s) n room (stop n (map walk (regionIn s))) (walkRegion (regionIn s))))
 
--- "It keeps no result, so a 65th cut is no refusal there."
+-- FORMAT 64, 66, 114; a piece with 65 cuts is not refused (FORMAT 115)
 unfoldable pub diff-in : ℕ → List ℕ → List ℕ → ℕ → ℕ → Told
 diff-in w s t n room =
     let a = differenceAt w s 0 in
@@ -169,7 +175,7 @@ diff-in w s t n room =
     (lentRecord w t 2
     (walking w n room (stop n (walksLess a b)) (walkInclusion a b)))))
 
--- "The ceiling of demand 3 can be asked for one difference"; "0: written, or the ceiling, which is then the count"
+-- FORMAT 32, 116
 unfoldable pub ceiling-of : ℕ → List ℕ → Told
 ceiling-of w s =
     outcome
@@ -179,8 +185,7 @@ ceiling-of w s =
 
 -- fields
 
--- "A field starts at s and has n positions, n at least 1, s + n at most W. The prefix length m is 1 to n; else 21. The value has ceil(n/8) bytes from
--- the left; bits after m are zero, else 11."
+-- FORMAT 46, 78 to 81
 unfoldable pub prefix : ℕ → ℕ → ℕ → ℕ → List ℕ → ℕ → Told
 prefix w s n m value room =
     outcome
@@ -192,7 +197,7 @@ prefix w s n m value room =
     (lentBits n m value
     (writing (writeCube (prefixCube w s m (bits value))) room)))))))
 
--- "Two starts and one n, bounded as above." .. "Different starts and n above 32 give 18." .. "One kind 2 record is written."
+-- FORMAT 43, 46, 78, 82 to 87
 unfoldable pub equal-fields : ℕ → ℕ → ℕ → ℕ → ℕ → Told
 equal-fields w p q n room =
     outcome
@@ -210,10 +215,11 @@ pub record Viewed : Type 0 where
   pub start : ℕ
   pub size : ℕ
 
+-- FORMAT 90
 abbrev pub unseen : Answer → Viewed
 unseen a = record { answer = a; start = 0; size = 0 }
 
--- "A cube by difference and index (0 is the base) is handed back as that stretch of the caller's file.", "for an index 1, 23 or the file's refusal"
+-- FORMAT 48, 88, 91
 unfoldable pub view : List ℕ → ℕ → ℕ → Viewed
 view s d i =
     let at = getD (offsets (readFile s)) d 0 in
@@ -229,15 +235,15 @@ pub record Step : Type 0 where
   pub answer : Answer
   pub place : ℕ
 
+-- FORMAT 95
 abbrev pub stay : Answer → ℕ → Step
 stay a place = record { answer = a; place = place }
 
--- "It starts at place 0: kind 1, then the first difference. Any other place is read as a kind 2 record's start"
+-- FORMAT 96
 abbrev pub startOf : List ℕ → ℕ → ℕ
 startOf s place = cond (eqb place 0) (firstAt s) place
 
--- "gives one difference after another: 1 with the record's offset, 2 with offset 0 after the last. A refused record gives its number and offset, and the
--- place stays, as it does after 2." .. "the file's end is 2, beyond it 15. W is kind 1's, read first in each step and refused at 0. Records are not counted, so 19 is not given."
+-- FORMAT 94, 95, 97 to 99
 unfoldable pub read-on : List ℕ → ℕ → Step
 read-on s place =
     let at = startOf s place in
@@ -248,7 +254,7 @@ read-on s place =
     (row (isnt f 0) (stay (fault f 1 at) place)
     (last (record { answer = placed at; place = nextAt s at })))))
 
--- the question program lends room for the widest header
+-- FORMAT 49, 140; the program lends room for the widest header
 unfoldable pub question : List ℕ → Told
 question s =
     outcome

@@ -22,6 +22,7 @@ abbrev pub faultNumber : Reading → ℕ
 faultNumber (refused f at) = f
 faultNumber (whole os) = 0
 
+-- FORMAT 27
 abbrev pub faultOffset : Reading → ℕ
 faultOffset (refused f at) = at
 faultOffset (whole os) = 0
@@ -42,8 +43,7 @@ differencesFrom (suc t) w s at n =
     let here = cond (eqb f 0) rest (refused f at) in
     cond (leb (length s) at) (whole []) here
 
--- "A region file is one kind 1 and then kind 2 records to its end." .. "An empty file is 15 at 0." A record is not empty, so a file has no more records
--- than bytes.
+-- FORMAT 24, 63. A record is not empty, so a file has no more records than bytes.
 unfoldable pub readFile : List ℕ → Reading
 readFile s =
     let rest = differencesFrom (length s) (widthOf s) s (firstAt s) 0 in
@@ -52,5 +52,6 @@ readFile s =
 abbrev pub regionOf : ℕ → List ℕ → List ℕ → Region
 regionOf w s os = map (differenceAt w s) os
 
+-- FORMAT 24
 abbrev pub regionIn : List ℕ → Region
 regionIn s = regionOf (widthOf s) s (offsets (readFile s))

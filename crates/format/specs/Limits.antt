@@ -8,7 +8,7 @@
 --   widthKind, differenceKind   == the kinds of records
 use Prim.Native.Nat.{ℕ, _+_, _*_, _/_}
 
--- "A header is W bits, W from 1 to 320 (an IPv6 header is 320)."
+-- FORMAT 3, 139
 abbrev pub widest : ℕ
 widest = 320
 
@@ -18,23 +18,25 @@ widestCube = (widest + 3) / 4
 abbrev pub widestHeader : ℕ
 widestHeader = (widest + 7) / 8
 
--- "A difference is one base cube and 0 to 64 cuts."
+-- FORMAT 6, 139
 abbrev pub mostCuts : ℕ
 mostCuts = 64
 
 abbrev pub takenCuts : ℕ
 takenCuts = 2 * mostCuts
 
--- "A region is 0 to 256 differences."
+-- FORMAT 8
 abbrev pub mostDifferences : ℕ
 mostDifferences = 256
 
--- "the program's input is above 65,536 bytes"
+-- FORMAT 49
 abbrev pub mostInput : ℕ
 mostInput = 65536
 
+-- FORMAT 21
 abbrev pub widthKind : ℕ
 widthKind = 1
 
+-- FORMAT 22
 abbrev pub differenceKind : ℕ
 differenceKind = 2

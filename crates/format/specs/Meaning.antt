@@ -22,6 +22,7 @@ use Rattle.format.specs.Files.{readFile, faultNumber, regionIn}
 use Rattle.format.specs.Told.{Told}
 use Rattle.format.specs.Calls.{Viewed, Step, startOf}
 
+-- FORMAT 25
 pub record Lent (w : ℕ) (s : List ℕ) : Type 0 where
   pub some : 1 ≤ w
   pub narrow : w ≤ widest
@@ -33,12 +34,14 @@ Inside w a b = (h : Header) → holds (readCube w a) h ≡ true → holds (readC
 abbrev pub Outside : ℕ → List ℕ → List ℕ → Type 0
 Outside w a b = (h : Header) × (holds (readCube w a) h ≡ true) × (holds (readCube w b) h ≡ false)
 
+-- FORMAT 120, of a region written
 pub record Written (w : ℕ) (r : Region) (bs : List ℕ) : Type 0 where
   pub bytes : Bytes bs
   pub accepted : faultNumber (readFile bs) ≡ 0
   pub width : widthOf bs ≡ w
   pub region : regionIn bs ≡ r
 
+-- FORMAT 120, of a cube written
 pub record WrittenCube (w : ℕ) (c : Cube) (bs : List ℕ) : Type 0 where
   pub bytes : Bytes bs
   pub accepted : lentFault w bs ≡ 0

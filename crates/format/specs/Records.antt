@@ -1,4 +1,4 @@
--- Records: "a two-byte length (bytes after the length), a two-byte kind and a body, numbers little-endian".
+-- Records: a length, a kind and a body (FORMAT 20).
 --   u16At s at               == the number in two bytes of s at an offset
 --   lengthAt, kindAt         == a record's length and kind
 --   nextAt s at              == where the record at an offset ends
@@ -31,9 +31,11 @@ use Rattle.format.specs.Rows.{Rows, last, row, then, below, is, isnt, ou
 use Rattle.format.specs.Limits.{widest, mostCuts, mostDifferences, widthKind, differenceKind}
 use Rattle.format.specs.Bytes.{cubeLen, readCube, writeCube, cubeFault}
 
+-- FORMAT 20: the low byte first
 abbrev pub u16At : List ℕ → ℕ → ℕ
 u16At s at = getD s at 0 + 256 * getD s (at + 1) 0
 
+-- FORMAT 20: a record's length, its kind, and where it ends
 abbrev pub lengthAt : List ℕ → ℕ → ℕ
 lengthAt s at = u16At s at
 
@@ -43,17 +45,18 @@ kindAt s at = u16At s (at + 2)
 abbrev pub nextAt : List ℕ → ℕ → ℕ
 nextAt s at = at + 2 + lengthAt s at
 
--- "Kind 2: one byte k, the base, k cuts"
+-- FORMAT 22
 unfoldable pub countAt : List ℕ → ℕ → ℕ
 countAt s at = getD s (at + 4) 0
 
 unfoldable pub frontLen : ℕ → ℕ
 frontLen k = 5
 
+-- FORMAT 22
 unfoldable pub baseAt : List ℕ → ℕ → ℕ
 baseAt s at = at + frontLen (countAt s at)
 
--- "its length is 3 + (k+1) times ceil(W/4)"
+-- FORMAT 23
 abbrev pub differenceLen : ℕ → ℕ → ℕ
 differenceLen k q = 3 + (k + 1) * q
 
@@ -65,10 +68,11 @@ unfoldable pub cubesAt : ℕ → List ℕ → ℕ → ℕ → List Cube
 cubesAt w s at zero = []
 cubesAt w s at (suc k) = cubeAt w s at ∷ cubesAt w s (at + cubeLen w) k
 
+-- FORMAT 22
 abbrev pub differenceAt : ℕ → List ℕ → ℕ → Difference
 differenceAt w s at = less (cubeAt w s (baseAt s at)) (cubesAt w s (baseAt s at + cubeLen w) (countAt s at))
 
--- refused. "base then cuts, each 13 before 14"
+-- refused: FORMAT 60
 unfoldable pub cubesFault : ℕ → List ℕ → ℕ → ℕ → ℕ
 cubesFault w s at zero = 0
 cubesFault w s at (suc k) =
@@ -76,7 +80,7 @@ cubesFault w s at (suc k) =
     let later = cubesFault w s (at + cubeLen w) k in
     cond (eqb first 0) later first
 
--- "In a record: 15; a length below 2 is 17; 16"
+-- FORMAT 40 to 42, in the order of 55
 abbrev pub frameRows : ℕ → List ℕ → ℕ → Rows ℕ
 frameRows kind s at =
     row (below (length s) (at + 2)) 15
@@ -85,6 +89,7 @@ frameRows kind s at =
     (row (isnt (kindAt s at) kind) 16
     (last 0))))
 
+-- FORMAT 21
 abbrev pub widthOf : List ℕ → ℕ
 widthOf s = u16At s 4
 
@@ -92,7 +97,7 @@ widthOf s = u16At s 4
 unfoldable pub firstAt : List ℕ → ℕ
 firstAt s = nextAt s 0
 
--- "kind 1's length, then W"
+-- FORMAT 35, 42, 63, in the order of 56
 abbrev pub widthRows : List ℕ → Rows ℕ
 widthRows s =
     then (frameRows widthKind s 0)
@@ -104,12 +109,11 @@ widthRows s =
 unfoldable pub widthFault : List ℕ → ℕ
 widthFault s = outcome (widthRows s)
 
--- the bytes after a single record; in a file other records may follow
+-- FORMAT 59: the bytes after a single record; in a file other records may follow
 abbrev pub bytesAfter : Bool → List ℕ → ℕ → ℕ
 bytesAfter alone s at = cond alone (length s - nextAt s at) 0
 
--- "A 257th kind 2 record is 19 as soon as its kind is known." .. "kind 2's length below 3 is 17; 18; 17; base then cuts" ..
--- "Bytes after a single record are found with the second 17, before its cubes."
+-- FORMAT 42 to 44, in the order of 57 to 59
 abbrev pub numberRows : Bool → ℕ → ℕ → List ℕ → ℕ → Rows ℕ
 numberRows alone w n s at =
     then (frameRows differenceKind s at)
@@ -120,6 +124,7 @@ numberRows alone w n s at =
     (row (isnt (bytesAfter alone s at) 0) 17
     (last 0))))))
 
+-- FORMAT 57: and then its cubes
 abbrev pub differenceRows : Bool → ℕ → ℕ → List ℕ → ℕ → Rows ℕ
 differenceRows alone w n s at =
     then (numberRows alone w n s at)
@@ -128,7 +133,7 @@ differenceRows alone w n s at =
 unfoldable pub differenceFault : Bool → ℕ → ℕ → List ℕ → ℕ → ℕ
 differenceFault alone w n s at = outcome (differenceRows alone w n s at)
 
--- written
+-- written: FORMAT 20
 abbrev pub u16Bytes : ℕ → List ℕ
 u16Bytes n = n % 256 ∷ n / 256 % 256 ∷ []
 
@@ -139,6 +144,7 @@ cubesBytes (c ∷ cs) = writeCube c ++ cubesBytes cs
 unfoldable pub frontBytes : ℕ → ℕ → List ℕ
 frontBytes k q = u16Bytes (differenceLen k q) ++ (u16Bytes differenceKind ++ (k ∷ []))
 
+-- FORMAT 22, 87
 unfoldable pub differenceBytes : ℕ → Difference → List ℕ
 differenceBytes w d = frontBytes (length (d .cuts)) (cubeLen w) ++ cubesBytes (d .base ∷ d .cuts)
 
@@ -146,10 +152,10 @@ abbrev pub differencesBytes : ℕ → Region → List ℕ
 differencesBytes w [] = []
 differencesBytes w (d ∷ r) = differenceBytes w d ++ differencesBytes w r
 
--- "Kind 1: length 4, body W in two bytes."
+-- FORMAT 21
 abbrev pub widthBytes : ℕ → List ℕ
 widthBytes w = u16Bytes 4 ++ (u16Bytes widthKind ++ u16Bytes w)
 
--- "A region file is one kind 1 and then kind 2 records to its end."
+-- FORMAT 24
 unfoldable pub fileBytes : ℕ → Region → List ℕ
 fileBytes w r = widthBytes w ++ differencesBytes w r

@@ -30,6 +30,7 @@ pub data Rows (A : Type 0) : Type 0 where
   last : A → Rows A
   row : Test → A → Rows A → Rows A
 
+-- FORMAT 31
 unfoldable pub outcome : {A : Type 0} → Rows A → A
 outcome (last a) = a
 outcome (row t a k) = cond (passes t) a (outcome k)

@@ -33,49 +33,51 @@ use Rattle.format.specs.Bytes.{headerLen, bits, anyBit, writeHeader, len
 use Rattle.format.specs.Records.{differenceFault, fileBytes}
 use Rattle.format.specs.Files.{readFile, faultNumber, faultOffset}
 
+-- FORMAT 122
 pub record Told : Type 0 where
   pub answer : Answer
   pub bytes : List ℕ
 
--- "Successful writing touches the first bytes written and none after."
+-- FORMAT 52
 abbrev pub over : List ℕ → List ℕ → List ℕ
 over old new = new ++ drop (length new) old
 
+-- FORMAT 52, 122
 pub record Permitted (t : Told) (old : List ℕ) (r : Answer) (new : List ℕ) : Type 0 where
   pub answer : r ≡ t .answer
   pub buffer : new ≡ over old (t .bytes)
 
--- "Every refusal, and answers 1 and 3, write nothing."
+-- FORMAT 50
 abbrev pub silent : Answer → Told
 silent a = record { answer = a; bytes = [] }
 
 -- the tests of what is lent, each a table of refusals whose last line, the number 0, refuses nothing
--- "10: W is 0 or above 320"; "for 10 where W is given directly" operand and offset are 0
+-- FORMAT 35; of a W that is given directly (FORMAT 28)
 abbrev pub widthTests : ℕ → Rows Answer
 widthTests w =
     row (is w 0) (refused 10)
     (row (below widest w) (refused 10)
     (last accepted))
 
--- "A lent cube's fault has its operand and offset 0."
+-- FORMAT 29
 abbrev pub cubeTests : ℕ → List ℕ → ℕ → Rows Answer
 cubeTests w c operand =
     row (isnt (lentFault w c) 0) (fault (lentFault w c) operand 0)
     (last accepted)
 
--- "A single difference is lent as one kind 2 record with W beside it."
+-- FORMAT 25
 abbrev pub recordTests : ℕ → List ℕ → ℕ → Rows Answer
 recordTests w s operand =
     row (isnt (differenceFault true w 0 s 0) 0) (fault (differenceFault true w 0 s 0) operand 0)
     (last accepted)
 
--- "The offset is that of the record at fault in its operand."
+-- FORMAT 27
 abbrev pub fileTests : List ℕ → ℕ → Rows Answer
 fileTests s operand =
     row (isnt (faultNumber (readFile s)) 0) (fault (faultNumber (readFile s)) operand (faultOffset (readFile s)))
     (last accepted)
 
--- "11: a header or field value has the wrong length, or a bit set where zero is required"; `used` bits may be set
+-- FORMAT 36; `used` bits may be set (FORMAT 14, 80)
 abbrev pub bitsTests : ℕ → ℕ → List ℕ → Rows Answer
 bitsTests n used bs =
     row (isnt (length bs) (headerLen n)) (refused 11)
@@ -92,7 +94,7 @@ oneRecord w s = then (widthTests w) (recordTests w s 1)
 abbrev pub twoRecords : ℕ → List ℕ → List ℕ → Rows Answer
 twoRecords w s t = then (oneRecord w s) (recordTests w t 2)
 
--- a call's table behind such tests
+-- FORMAT 53: a call's table behind such tests
 abbrev pub wide : ℕ → Rows Told → Rows Told
 wide w k = onto silent (widthTests w) k
 
@@ -111,13 +113,13 @@ lentBits n used bs k = onto silent (bitsTests n used bs) k
 abbrev pub lentHeader : ℕ → List ℕ → Rows Told → Rows Told
 lentHeader w h k = lentBits w w h k
 
--- yes where b is true
+-- FORMAT 33: yes where b is true
 abbrev pub yesOr : Bool → Rows Told
 yesOr b =
     row (so b) (silent yes)
     (last (silent no))
 
--- "22: the output buffer is too short"
+-- FORMAT 32, 47
 abbrev pub writing : List ℕ → ℕ → Rows Told
 writing bs room =
     row (below room (length bs)) (silent (refused 22))
@@ -127,23 +129,24 @@ abbrev pub anyLong : Region → Bool
 anyLong [] = false
 anyLong (d ∷ r) = ltb mostCuts (length (d .cuts)) || anyLong r
 
--- "then 18 if any difference of the tidied result has too many cuts, 19, 22"
+-- FORMAT 43, 44, in the order of 54
 abbrev pub writingFile : Region → List ℕ → ℕ → Rows Told
 writingFile r bs room =
     row (so (anyLong r)) (silent (refused 18))
     (row (below mostDifferences (length r)) (silent (refused 19))
     (writing bs room))
 
+-- FORMAT 54, 71
 abbrev pub writingRegion : ℕ → Region → ℕ → Rows Told
 writingRegion w r room = writingFile r (fileBytes w r) room
 
--- "Every refusal, and answers 1 and 3, write nothing. Answer 2 to emptiness or inclusion writes one header."
+-- FORMAT 33, 34, 50, 51
 abbrev pub deciding : ℕ → Decision → Told
 deciding w (undecided n i) = silent (counted 3 n)
 deciding w (empty n) = silent (counted 1 n)
 deciding w (member n i p) = record { answer = showing n (headerLen w); bytes = writeHeader (shown p) }
 
--- "The header buffer's room is tested before any walk"
+-- FORMAT 47, 62
 abbrev pub walking : ℕ → ℕ → ℕ → ℕ → Found → Rows Told
 walking w n room i v =
     row (below room (headerLen w)) (silent (refused 22))

@@ -10,28 +10,29 @@ use Rattle.model.specs.Cube.{Cube, meet, shares}
 use Rattle.model.specs.Difference.{Difference, less, Region}
 use Rattle.model.specs.Tidy.{each}
 
--- "The bases meet; cuts of the first, then of the second."
+-- FORMAT 72, 73
 -- (a \ A) ∩ (b \ B) = (a ∩ b) \ (A ∪ B)
 unfoldable pub intersection : Difference → Difference → Region
 intersection a b =
     let both = less (meet (a .base) (b .base)) (a .cuts ++ b .cuts) in
     cond (shares (a .base) (b .base)) (both ∷ []) []
 
+-- FORMAT 74
 abbrev pub intersections : Region → Region → Region
 intersections r s = each (λ a. each (intersection a) s) r
 
--- "then, for j from 1 to k, a meet bj less A, where a and bj share a header"
+-- FORMAT 76
 unfoldable pub restored : Difference → List Cube → Region
 restored a [] = []
 restored a (c ∷ cs) =
     let back = less (meet (a .base) c) (a .cuts) in
     cond (shares (a .base) c) (back ∷ restored a cs) (restored a cs)
 
--- "First a less A and then b"
+-- FORMAT 75, and then 76
 -- (a \ A) \ (b \ B) = (a \ (A ∪ b)) ∪ ((a ∩ B) \ A)
 abbrev pub subtraction : Difference → Difference → Region
 subtraction a b = less (a .base) (a .cuts ++ (b .base ∷ [])) ∷ restored a (b .cuts)
 
--- "A region less a difference does so for each in order."
+-- FORMAT 77
 abbrev pub subtractions : Region → Difference → Region
 subtractions r b = each (λ a. subtraction a b) r

@@ -1,4 +1,5 @@
--- The ceiling on the pieces of a walk: 1 + f1 (1 + f2 (.. (1 + fk * 1))) over the cuts that meet the base, in their order.
+-- The ceiling on the pieces of a walk (FORMAT 117): 1 + f1 (1 + f2 (.. (1 + fk * 1))) over the cuts that meet the base,
+-- in their order.
 --   frees b c        == how many positions the cut c fixes and the base b leaves free
 --   ceilingFrom b cs == the ceiling of the base b with the cuts cs
 --   ceiling d        == the ceiling of a difference, uncapped
@@ -12,12 +13,13 @@ use Rattle.model.specs.Cube.{Cube, shares}
 use Rattle.model.specs.Difference.{Difference}
 use Rattle.model.specs.Walk.{opens}
 
+-- FORMAT 117: f of a cut
 unfoldable pub frees : Cube → Cube → ℕ
 frees [] c = 0
 frees (x ∷ b) [] = 0
 frees (x ∷ b) (y ∷ c) = cond (opens x y) 1 0 + frees b c
 
--- "Meeting cuts are taken in their order; the last f is times 1, and with no such cut it is 1."
+-- FORMAT 117
 unfoldable pub ceilingFrom : Cube → List Cube → ℕ
 ceilingFrom b [] = 1
 ceilingFrom b (c ∷ cs) =
@@ -27,9 +29,10 @@ ceilingFrom b (c ∷ cs) =
 abbrev pub ceiling : Difference → ℕ
 ceiling d = ceilingFrom (d .base) (d .cuts)
 
+-- FORMAT 118
 abbrev pub mostPieces : ℕ
 mostPieces = 4294967295
 
--- "at or above 4,294,967,295 it returns that number"
+-- FORMAT 118
 abbrev pub capped : ℕ → ℕ
 capped n = cond (leb mostPieces n) mostPieces n

@@ -1,4 +1,4 @@
--- Headers and cubes. Position 0 is the leftmost, so the first of each list.
+-- Headers and cubes. Position 0 is the leftmost, so the first of each list (FORMAT 11).
 --   Header         == the bits of a header, one for each position
 --   Code           == what a cube says of a position: nothing fits (none), the value 0 (v0), the value 1 (v1), both fit (free)
 --   Cube           == the codes of a cube, one for each position; one that a `none` stands in holds no header
@@ -18,22 +18,26 @@
 use mathlib.Core.List.{List, [], _∷_}
 use mathlib.Core.Bool.{Bool, true, false, not, _&&_}
 
+-- FORMAT 3, 11
 abbrev pub Header : Type 0
 Header = List Bool
 
+-- FORMAT 4
 pub data Code : Type 0 where
   none v0 v1 free : Code
 
+-- FORMAT 4, 11
 abbrev pub Cube : Type 0
 Cube = List Code
 
--- "A header is in it if it agrees at every fixed position."
+-- FORMAT 5, at one position
 abbrev pub admits : Code → Bool → Bool
 admits none b = false
 admits v0 b = not b
 admits v1 b = b
 admits free b = true
 
+-- FORMAT 5
 abbrev pub holds : Cube → Header → Bool
 holds [] [] = true
 holds [] (b ∷ h) = false
@@ -57,6 +61,7 @@ abbrev pub nones : Cube → Cube
 nones [] = []
 nones (x ∷ c) = none ∷ nones c
 
+-- FORMAT 67
 abbrev pub meet : Cube → Cube → Cube
 meet [] b = nones b
 meet (x ∷ a) [] = none ∷ nones a
@@ -72,6 +77,7 @@ abbrev pub solid : Cube → Bool
 solid [] = true
 solid (x ∷ c) = coded x && solid c
 
+-- FORMAT 67
 abbrev pub shares : Cube → Cube → Bool
 shares a b = solid (meet a b)
 
@@ -99,7 +105,7 @@ same [] (y ∷ b) = false
 same (x ∷ a) [] = false
 same (x ∷ a) (y ∷ b) = sameCode x y && same a b
 
--- a lies in b where meeting b changes nothing
+-- FORMAT 68: a lies in b where meeting b changes nothing
 abbrev pub within : Cube → Cube → Bool
 within a b = same (meet a b) a
 
@@ -109,7 +115,7 @@ shownBit v0 = false
 shownBit v1 = true
 shownBit free = false
 
--- "the header with all its free positions 0 is shown"
+-- FORMAT 103
 abbrev pub shown : Cube → Header
 shown [] = []
 shown (x ∷ c) = shownBit x ∷ shown c

@@ -14,7 +14,7 @@ use mathlib.Core.List.{List, [], _∷_}
 use mathlib.Core.Bool.{Bool, true, false, cond, not, _&&_, _||_}
 use Rattle.model.specs.Cube.{Header, Cube, holds}
 
--- "A difference is one base cube and 0 to 64 cuts."; the limits are of the bytes, and not of the sets
+-- FORMAT 6; the limits are of the bytes, and not of the sets
 pub record Difference : Type 0 where
   pub base : Cube
   pub cuts : List Cube
@@ -22,7 +22,7 @@ pub record Difference : Type 0 where
 abbrev pub less : Cube → List Cube → Difference
 less b cs = record { base = b; cuts = cs }
 
--- "A region is 0 to 256 differences."
+-- FORMAT 8
 abbrev pub Region : Type 0
 Region = List Difference
 
@@ -30,11 +30,11 @@ abbrev pub anyHolds : List Cube → Header → Bool
 anyHolds [] h = false
 anyHolds (c ∷ cs) h = holds c h || anyHolds cs h
 
--- "A header is in it if it is in the base and in no cut."
+-- FORMAT 2, 7
 abbrev pub inDifference : Difference → Header → Bool
 inDifference d h = holds (d .base) h && not (anyHolds (d .cuts) h)
 
--- "A header is in it if it is in at least one."
+-- FORMAT 2, 9
 abbrev pub inRegion : Region → Header → Bool
 inRegion [] h = false
 inRegion (d ∷ r) h = inDifference d h || inRegion r h

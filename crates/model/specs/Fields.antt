@@ -24,18 +24,19 @@ sameBits [] (b ∷ v) = false
 sameBits (a ∷ u) [] = false
 sameBits (a ∷ u) (b ∷ v) = Bool·beq a b && sameBits u v
 
--- "The cube fixes the first m positions of the field"
+-- FORMAT 81
 unfoldable pub prefixCube : ℕ → ℕ → ℕ → Header → Cube
 prefixCube w s m value = replicate s free ++ (map bitCode (take m value) ++ replicate (w - (s + m)) free)
 
+-- FORMAT 84: a cut
 abbrev pub apart : ℕ → ℕ → ℕ → Code → Code → Cube
 apart w p q x y = set (set (replicate w free) p x) q y
 
--- "For i from 0 to n-1: the cut with 0 in the first field and 1 in the second, then 1 and 0."
+-- FORMAT 84, 86
 unfoldable pub unequal : ℕ → ℕ → ℕ → ℕ → List Cube
 unequal w p q zero = []
 unequal w p q (suc n) = apart w p q v0 v1 ∷ apart w p q v1 v0 ∷ unequal w (p + 1) (q + 1) n
 
--- "Base all free. .. Equal starts give no cuts."
+-- FORMAT 83
 unfoldable pub equalFields : ℕ → ℕ → ℕ → ℕ → Difference
 equalFields w p q n = less (replicate w free) (cond (eqb p q) [] (unequal w p q n))

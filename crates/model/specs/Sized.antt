@@ -1,4 +1,4 @@
--- Cubes and differences of W positions as document 01 has them: "A cube gives each position 0, 1 or free."
+-- Cubes and differences of W positions without a code `none` (FORMAT 4).
 --   All P xs     == P holds of each of xs
 --   Sized w c    == the cube c has w positions, and gives each of them 0, 1 or free
 --   Good w d     == the base and the cuts of d are such cubes
@@ -14,6 +14,7 @@ abbrev pub All : {A : Type 0} → (A → Type 0) → List A → Type 0
 All P [] = Unit {0}
 All P (x ∷ xs) = P x × All P xs
 
+-- FORMAT 4
 pub record Sized (w : ℕ) (c : Cube) : Type 0 where
   pub wide : length c ≡ w
   pub filled : solid c ≡ true

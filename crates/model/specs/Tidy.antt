@@ -13,8 +13,7 @@ abbrev pub among : Cube → List Cube → Bool
 among c [] = false
 among c (k ∷ ks) = same c k || among c ks
 
--- "Take the cuts in order. Drop one that has no header in common with the base; otherwise meet it with the base. If it now equals the base, the
--- difference is omitted. Drop it if it equals a cut already kept."
+-- FORMAT 69
 unfoldable pub tidyFrom : Cube → List Cube → List Cube → Region
 tidyFrom base kept [] = less base kept ∷ []
 tidyFrom base kept (c ∷ cuts) =
@@ -24,6 +23,7 @@ tidyFrom base kept (c ∷ cuts) =
     let met = cond (same cut base) [] (cond (among cut kept) dropped taken) in
     cond (shares base c) met dropped
 
+-- FORMAT 69
 abbrev pub tidy : Difference → Region
 tidy d = tidyFrom (d .base) [] (d .cuts)
 
@@ -31,6 +31,6 @@ abbrev pub each : {A : Type 0} → (A → Region) → List A → Region
 each f [] = []
 each f (x ∷ xs) = f x ++ each f xs
 
--- "tidying a region does this to each difference"
+-- FORMAT 70
 abbrev pub tidyRegion : Region → Region
 tidyRegion r = each tidy r

@@ -29,6 +29,7 @@ use Rattle.model.specs.Cube.{Code, none, v0, v1, free, Cube, meet, share
 use Rattle.model.specs.Difference.{Difference, less, Region}
 use Rattle.model.specs.Algebra.{subtraction}
 
+-- FORMAT 105: a position to go through
 abbrev pub opens : Code → Code → Bool
 opens none y = false
 opens v0 y = false
@@ -38,14 +39,14 @@ opens free v0 = true
 opens free v1 = true
 opens free free = false
 
+-- FORMAT 105: the other value
 abbrev pub other : Code → Code
 other none = none
 other v0 = v1
 other v1 = v0
 other free = free
 
--- "list left to right the positions it fixes and the piece leaves free. For each, visit the piece that agrees with the cut at the earlier ones and
--- differs at this one"
+-- FORMAT 105, 107
 abbrev pub children : Cube → Cube → List Cube
 children [] c = []
 children (x ∷ p) [] = []
@@ -67,17 +68,16 @@ joined n (piece p) v = record { pieces = n; survivor = piece p }
 abbrev pub next : Found → Found → Found
 next u v = joined (u .pieces) (u .survivor) v
 
+-- FORMAT 102, 112
 abbrev pub inTurn : {A : Type 0} → (A → Found) → List A → Found
 inTurn f [] = record { pieces = 0; survivor = nothing }
 inTurn f (x ∷ xs) = next (f x) (inTurn f xs)
 
--- "count one": a visit before what follows of it
+-- FORMAT 101: a visit counts one, before what follows of it
 abbrev pub visited : Found → Found
 visited v = record { pieces = 1 + v .pieces; survivor = v .survivor }
 
--- "To visit a piece with cuts left: count one. With no cuts left, the piece survives .. Otherwise look at the next cut. If it shares no header with the
--- piece, pass to the next cut, same visit. .. with the cuts after. No such position means the piece is covered." .. "The walk calls itself on the
--- narrower piece with fewer cuts left."
+-- FORMAT 101, 102, 104 to 107, 109
 unfoldable pub visit : List Cube → Cube → Found
 visit [] p = record { pieces = 1; survivor = piece p }
 visit (c ∷ cs) p =
@@ -85,15 +85,15 @@ visit (c ∷ cs) p =
     let passed = visit cs p in
     cond (shares p c) met passed
 
--- "The walk uses cuts as lent, untidied, and starts at the base."
+-- FORMAT 108
 abbrev pub walk : Difference → Found
 walk d = visit (d .cuts) (d .base)
 
--- "A region is walked difference by difference on one allowance, stopping at a member; an empty region is yes with count 0."
+-- FORMAT 112
 abbrev pub walkRegion : Region → Found
 walkRegion r = inTurn walk r
 
--- "Inclusion of A in B walks the untidied pieces of A less B, in that order, to the first member"
+-- FORMAT 113
 abbrev pub walkInclusion : Difference → Difference → Found
 walkInclusion a b = walkRegion (subtraction a b)
 
@@ -131,6 +131,6 @@ abbrev pub decided : ℕ → ℕ → Survivor → Decision
 decided n i nothing = empty n
 decided n i (piece p) = member n i p
 
--- "Undecided reports the allowance as its count. With 0 every difference is undecided, count 0."
+-- FORMAT 34, 111
 unfoldable pub decide : ℕ → ℕ → Found → Decision
 decide n i v = cond (leb (v .pieces) n) (decided (v .pieces) i (v .survivor)) (undecided n i)

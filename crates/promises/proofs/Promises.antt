@@ -1,4 +1,4 @@
--- What is promised of every call, under document 01's words: each demand here, and each call in the file of its family.
+-- What is promised of every call, under FORMAT 119 to 128: each demand here, and each call in the file of its family.
 --
 -- Who believes these words and reads this page with the files below it knows what is proved; each word stands in a file of specs that opens with its
 -- glossary:
@@ -51,8 +51,9 @@ pub use Views.*
 pub use ReadingOn.*
 pub use Host.*
 --
--- THE MODEL. What document 01 claims of headers, cubes, differences and the walk, each claim once over the width: the set meaning of the meet and of lying
--- in, of tidying, intersection, subtraction, prefix and equality;
+-- THE MODEL. What FORMAT.md claims of headers, cubes, differences and the walk, each claim once over the width
+-- (FORMAT 128): the set meaning of the meet and of lying in, of tidying, intersection, subtraction, prefix and
+-- equality;
 pub use Rattle.model.proofs.Cubes.{in-meet, shares-shown, apart-none, within-in, within-out}
 pub use Rattle.model.proofs.Tidying.{in-tidyRegion, tidy-tidy}
 pub use Rattle.model.proofs.Setting.{in-intersection, in-intersections, in-subtraction, in-subtractions, restored-back}
@@ -70,23 +71,23 @@ pub use Rattle.model.proofs.Walking.{walk-positive}
 pub use Rattle.model.proofs.Bound.{pieces-at-most-ceiling}
 pub use Rattle.model.proofs.Allowed.{decided-when, undecided-when}
 --
--- THE FIGURES. "Cases P1 to P10 are proved about the definitions, as one list under a single theorem"; and the trainees' slips 1, 2 and 5, each as the
--- answer that it gets wrong.
+-- THE FIGURES. P1 to P10, in one list under one theorem (FORMAT 127); and the trainees' slips 1, 2 and 5, each as the
+-- answer that it gets wrong (FORMAT 145, 146, 149).
 pub use Rattle.format.proofs.Figures.{figures}
 pub use Rattle.model.proofs.Slips.{slips}
 
--- AGREEMENT. "That two permitted outcomes agree is proved": of anything that a call tells, and so of each call.
+-- AGREEMENT. Any two permitted outcomes are the same (FORMAT 123), of anything that a call tells, and so of each call.
 pub two-outcomes-agree : (t : Told) (old : List ℕ) → OneOutcome t old
 two-outcomes-agree = agree
 
--- DEMAND 1. Every input is accepted, and every call ends. Bad bytes are refused by number, and a refused call leaves the buffers that it was lent
--- untouched. Of each call: f-met, f-promise, f-answered, f-kept.
+-- DEMAND 1 (FORMAT 119). A call takes any input, ends, refuses bad bytes by number, and where it refuses leaves every
+-- lent buffer as it was. Of each call: f-met, f-promise, f-answered, f-kept.
 
 -- A refusal is determined: a table of tests gives its first row whose test holds; rows are counted from 0, and the last line comes after them.
 pub first-row-that-holds : {A : Type 0} (n : ℕ) (k : Rows A) → Reaches n k → nth n k ≡ outcome k
 first-row-that-holds = reached
 
--- "Every refusal, and answers 1 and 3, write nothing."
+-- FORMAT 50: where nothing is written
 pub refusal-tells-no-byte : {room : ℕ} {t : Told} → Kept room t → Unwritten (t .answer) → (t .bytes ≡ []) × (t .answer .written ≡ 0)
 refusal-tells-no-byte k q = let e = none-written k q in (e, k .told ∙ ap length e)
 
@@ -94,7 +95,7 @@ module _ {t : Told} {old : List ℕ} {r : Answer} {new : List ℕ} (k : Kept (le
   pub refusal-leaves-buffer : Unwritten r → new ≡ old
   refusal-leaves-buffer q = p .buffer ∙ ap (over old) (none-written k (rw (p .answer) at q))
 
-  -- "Successful writing touches the first bytes written and none after."
+  -- FORMAT 52: which bytes a call changes
   pub first-bytes-written : take (r .written) new ≡ t .bytes
   first-bytes-written = rw (p .buffer, written k p) (take-at (t .bytes) _ _ refl)
 
@@ -104,14 +105,15 @@ module _ {t : Told} {old : List ℕ} {r : Answer} {new : List ℕ} (k : Kept (le
   pub buffer-length-kept : length new ≡ length old
   buffer-length-kept = rw (p .buffer) (simp (length-append, length-drop) (omega (arith, k .fits)))
 
--- DEMAND 2. Membership, intersection, subtraction, inclusion, field equality and prefix constraints mean exactly the header sets of the model. A region
--- read and written again has the same headers, a tidy one the same bytes. Of each call: f-means, f-yes, f-no, f-written; and of the bytes that it means:
--- "position p has weight 4^(3 - p mod 4) in byte p div 4", of a cube, and "2^(7 - p mod 8) in byte p div 8", of a header.
+-- DEMAND 2 (FORMAT 120). What the calls answer and write means the header sets of the model and nothing else; a region
+-- that is written again keeps its headers, and a tidy one its bytes. Of each call: f-means, f-yes, f-no, f-written; and
+-- of the bytes, which position of a cube (FORMAT 16) and of a header (FORMAT 13) stands where.
 pub cube-position : (bs : List ℕ) (p : ℕ) → p < 4 * length bs → getD (codes bs) p none ≡ codeOf (getD bs (p / 4) 0 / 4 ^ (3 - p % 4) % 4)
 cube-position = code-at
 
 pub header-position : (bs : List ℕ) (p : ℕ) → p < 8 * length bs → getD (bits bs) p false ≡ bitOf (getD bs (p / 8) 0 / 2 ^ (7 - p % 8) % 2)
 header-position = bit-at
 
--- DEMAND 3. Emptiness says yes exactly when no header is in, or shows one, unless the allowance is too small; undecided exactly when the written walk has
--- more pieces than the allowance; the count is that walk's and never above the ceiling. Of each call that walks: f-decides, and in Walks the ceilings.
+-- DEMAND 3 (FORMAT 121). Where the allowance is enough, emptiness says yes exactly where no header is in, and else
+-- shows one. It is undecided exactly where the walk has more pieces than the allowance. The count is of that walk's
+-- pieces, and the ceiling bounds it. Of each call that walks: f-decides, and in Walks the ceilings.

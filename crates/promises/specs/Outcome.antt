@@ -48,6 +48,6 @@ pub record Kept (room : ℕ) (x : Told) : Type 0 where
   pub told : x .answer .written ≡ length (x .bytes)
   pub fits : length (x .bytes) ≤ room
 
--- "Every refusal, and answers 1 and 3, write nothing."
+-- FORMAT 50
 abbrev pub Unwritten : Answer → Type 0
 Unwritten r = (10 ≤ r .number) ⊎ (r .number ≡ 1) ⊎ (r .number ≡ 3)

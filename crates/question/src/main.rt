@@ -9,10 +9,10 @@ use cube::WIDEST_HEADER;
 use libc::STDIN_FILENO;
 use libc::STDOUT_FILENO;
 
-// "25: the program's input is above 65,536 bytes"
+// FORMAT 49
 const MOST_INPUT: usize = 65536;
 
-// What document 01 answers of the input: 25 where it is too long, else emptiness with the program's allowance.
+// What the input is answered: 25 where it is too long, else emptiness with the program's allowance (FORMAT 49, 140).
 fn ask(input: &[u8], header: &mut [u8]) -> Answer
     requires { ⌜ length (now header) ≡ widestHeader ⌝ }
     ensures answer { λ r. ⌜ r ≡ question (now (input .entry)) .answer ⌝ }

@@ -1,4 +1,4 @@
--- Reading on, step after step. "The region reader keeps the lent file and its place .. It is a thin part above a reader on plain bytes and an offset."
+-- Reading on, step after step, and a reader, which adds to it only that it holds the file and its place (FORMAT 93).
 --   begun file          == the reader of a file, before its first difference
 --   turned r            == what a step of the reader r gives: what reading on gives at its place, and the reader with its next place
 --   answers n s place   == the answers of n steps of reading on in the file s from a place, in their order

@@ -21,7 +21,7 @@ use Rattle.visits.specs.declared.allowance.Verdict.{Verdict}
 use Rattle.visits.specs.declared.allowance.Verdict.the-variants.{Covered, Survives, Undecided}
 use Rattle.visits.specs.declared.allowance.Outcome.{Outcome}
 
--- "The allowance is 0 to 4,294,967,295 and is handed from visit to visit with what is spent."
+-- FORMAT 110
 abbrev pub after : Allowance → ℕ → Allowance
 after a n = record { left = a .left - n; spent = a .spent + n }
 

@@ -46,7 +46,7 @@ use Rattle.promises.proofs.Keeping.{kept}
 cubes-tell : (w : ℕ) (a b : List ℕ) (y : Told) → Tells (Cubes w a b) y (outcome (wide w (lentCube w a 1 (lentCube w b 2 (last y)))))
 cubes-tell w a b y = by-table 4 _ (omega (arith, lent-refusal w a, lent-refusal w b)) (omega arith) (omega arith)
 
--- CUBE_MEET. "Two lent cubes that share a header meet in the cube written; if they share none the answer is 2 and nothing is written."
+-- CUBE_MEET: the cube of the common headers, or 2 (FORMAT 67)
 pub cube-meet-promise : Promise cube-meet-call.Kinds.ps cube-meet-call.Kinds.r cube-meet-call.Reads.Asked cube-meet-call.Reads.Learnt
     (λ κs (w, (a, (b, (old, _)))) x (_, (_, (_, (new, _)))). Buffered (cube-meet w (now a) (now b)) old x new)
 cube-meet-promise = record { anything = λ κs a. tt; permits = λ κs a x e. permitted }
@@ -99,7 +99,7 @@ module _ (w : ℕ) (a b : List ℕ) where
       → WrittenCube w (meet (readCube w a) (readCube w b)) (cube-meet w a b room .bytes)
   cube-meet-written = Rewriting.cube-meet-written w a b
 
--- CUBE_IN. "Cube inclusion, first in second, is 1 or 2 and writes nothing."
+-- CUBE_IN: whether the first lies in the second (FORMAT 68)
 pub cube-in-promise : Promise cube-in-call.Kinds.ps cube-in-call.Kinds.r cube-in-call.Reads.Asked cube-in-call.Reads.Learnt
     (λ κs (w, (a, (b, _))) x e. x ≡ cube-in w (now a) (now b) .answer)
 cube-in-promise = record { anything = λ κs a. tt; permits = λ κs a x e l. l }
@@ -122,7 +122,7 @@ module _ (w : ℕ) (a b : List ℕ) where
   pub cube-in-no : cube-in w a b .answer .number ≡ 2 → Outside w a b
   cube-in-no = Belonging.cube-in-no w a b
 
--- WIDER_NUMBER. "A separate question returns the number: .. for the wider cube 1, 2 or the cubes' refusal"
+-- WIDER_NUMBER: the number of the wider cube, as a question of its own (FORMAT 92)
 pub wider-number-promise : Promise wider-number-call.Kinds.ps wider-number-call.Kinds.r wider-number-call.Reads.Asked wider-number-call.Reads.Learnt
     (λ κs (w, (a, (b, _))) x e. x ≡ wider-number w (now a) (now b) .answer)
 wider-number-promise = record { anything = λ κs a. tt; permits = λ κs a x e l. l }
@@ -146,7 +146,7 @@ module _ (w : ℕ) (a b : List ℕ) where
   pub wider-number-no : wider-number w a b .answer .number ≡ 2 → Outside w b a × Outside w a b
   wider-number-no = Belonging.wider-number-no w a b
 
--- WIDER. "the first if it holds the second, else the second if it holds the first". "A refusal or no such cube gives a stretch of length 0."
+-- WIDER: the very bytes of the wider cube, or none (FORMAT 89, 90)
 pub wider-promise : Promise wider-call.Kinds.ps wider-call.Kinds.r wider-call.Reads.Asked wider-call.Reads.Learnt
     (λ κs (w, (a, (b, _))) x e. WiderIs w a b x)
 wider-promise = record { anything = λ κs a. tt; permits = λ κs a x e l. l }

@@ -35,8 +35,7 @@ use Rattle.promises.proofs.Agreeing.{permitted, agree}
 use Rattle.promises.proofs.Telling.{by-table, cube-size}
 use Rattle.promises.proofs.Keeping.{kept}
 
--- PREFIX. "A field starts at s and has n positions, n at least 1, s + n at most W. The prefix length m is 1 to n; else 21. The value has ceil(n/8) bytes
--- from the left; bits after m are zero, else 11."
+-- PREFIX: the cube of a prefix constraint, or 21 or 11 (FORMAT 78 to 81)
 pub prefix-promise : Promise prefix-call.Kinds.ps prefix-call.Kinds.r prefix-call.Reads.Asked prefix-call.Reads.Learnt
     (λ κs (w, (s, (n, (m, (value, (old, _)))))) x (_, (_, (_, (_, (_, (new, _)))))). Buffered (prefix w s n m (now value)) old x new)
 prefix-promise = record { anything = λ κs a. tt; permits = λ κs a x e. permitted }
@@ -68,7 +67,7 @@ module _ (w s n m : ℕ) (value : List ℕ) where
       → WrittenCube w (prefixCube w s m (bits value)) (prefix w s n m value room .bytes)
   prefix-written = Rewriting.prefix-written w s n m value
 
--- EQUAL_FIELDS. "Two starts and one n, bounded as above." .. "Different starts and n above 32 give 18." .. "One kind 2 record is written."
+-- EQUAL_FIELDS: the record of an equality of fields, or 21 or 18 (FORMAT 82 to 87)
 pub equal-fields-promise : Promise equal-fields-call.Kinds.ps equal-fields-call.Kinds.r equal-fields-call.Reads.Asked equal-fields-call.Reads.Learnt
     (λ κs (w, (p, (q, (n, (old, _))))) x (_, (_, (_, (_, (new, _))))). Buffered (equal-fields w p q n) old x new)
 equal-fields-promise = record { anything = λ κs a. tt; permits = λ κs a x e. permitted }

@@ -22,7 +22,7 @@ use Rattle.promises.proofs.Keeping.{kept}
 use Rattle.promises.proofs.Promises.Membership.{region-member-agrees}
 use Rattle.promises.proofs.Promises.Walks.{region-empty-agrees, region-empty-kept}
 
--- "The packet broker's C host asks membership and emptiness on plain numbers and byte buffers": of a region
+-- FORMAT 100: what the C host asks of a region
 pub permit-member-promise : Promise permit-member-call.Kinds.ps permit-member-call.Kinds.r permit-member-call.Reads.Asked permit-member-call.Reads.Learnt
     (λ κs (s, (h, _)) x e. x ≡ region-member (now s) (now h) .answer)
 permit-member-promise = record { anything = λ κs a. tt; permits = λ κs a x e l. l }
@@ -37,7 +37,7 @@ permit-empty-promise = record { anything = λ κs a. tt; permits = λ κs a x e.
 pub permit-empty-agrees : (s : List ℕ) (n : ℕ) (old : List ℕ) → OneOutcome (region-empty s n (length old)) old
 permit-empty-agrees = region-empty-agrees
 
--- The question program: "25: the program's input is above 65,536 bytes", "reads a region file on standard input with allowance 1,000,000".
+-- The question program: 25 of a long input (FORMAT 49), and of any other emptiness with its allowance (FORMAT 140).
 module _ (s : List ℕ) where
   pub question-long : mostInput < length s → question s ≡ silent (refused 25)
   unfolding question

@@ -38,8 +38,7 @@ pub use Rattle.region.proofs.step_on.Met.{met as step-on-met}
 use Rattle.promises.specs.Outcome.{Promise, OneResult}
 use Rattle.promises.proofs.Agreeing.{same-result}
 
--- READ_ON. "gives one difference after another: 1 with the record's offset, 2 with offset 0 after the last. A refused record gives its number and offset,
--- and the place stays, as it does after 2."
+-- READ_ON: a step from a place (FORMAT 94 to 99)
 pub read-on-promise : Promise read-on-call.Kinds.ps read-on-call.Kinds.r read-on-call.Reads.Asked read-on-call.Reads.Learnt
     (λ κs (s, (place, _)) x e. stepped x ≡ read-on (now s) place)
 read-on-promise = record { anything = λ κs a. tt; permits = λ κs a x e l. l }
@@ -90,9 +89,9 @@ first-step-agrees s = read-on-agrees s 0
 pub read-on-first : (s : List ℕ) → widthFault s ≡ 0 → startOf s 0 ≡ 6
 read-on-first = first-six
 
--- Step after step: each difference of an accepted file once, in order, at its record's offset, and then 2 for ever; of a refused file the differences
--- before the refused record, and then that refusal for ever. "Records are not counted, so 19 is not given": a file that is refused with 19 is read on
--- past its 256th difference.
+-- Step after step: each difference of an accepted file once, in order, at its record's offset, and then 2 for ever; of
+-- a refused file the differences before the refused record, and then that refusal for ever. No step counts records
+-- (FORMAT 99): a file that is refused with 19 is read on past its 256th difference.
 pub accepted-steps : (s : List ℕ) {os : List ℕ} → readFile s ≡ whole os → (m : ℕ)
     → answers (length os + m) s 0 ≡ map placed os ++ replicate m no
 accepted-steps = Stepping.accepted-steps

@@ -46,7 +46,7 @@ use Rattle.promises.proofs.Keeping.{kept}
 region-tells : (w : ℕ) (r : Region) (room : ℕ) → Tells (Writable w r room) (writes (fileBytes w r)) (outcome (writingRegion w r room))
 region-tells w r room = by-table 3 _ (omega arith) (λ passed. search) (λ f. search)
 
--- REGION_TIDY. "A region read and written again has the same headers, a tidy one the same bytes."
+-- REGION_TIDY: what was read is written again, tidied (FORMAT 71, 120)
 pub region-tidy-promise : Promise region-tidy-call.Kinds.ps region-tidy-call.Kinds.r region-tidy-call.Reads.Asked region-tidy-call.Reads.Learnt
     (λ κs (s, (old, _)) x (_, (new, _)). Buffered (region-tidy (now s)) old x new)
 region-tidy-promise = record { anything = λ κs a. tt; permits = λ κs a x e. permitted }
@@ -109,7 +109,7 @@ module _ (w : ℕ) (s t : List ℕ) where
       → Written w (tidyRegion (intersection (differenceAt w s 0) (differenceAt w t 0))) (diff-intersect w s t room .bytes)
   diff-intersect-written = Rewriting.diff-intersect-written w s t
 
--- REGION_INTERSECT: the headers that are in both. "20: two region files have different W"
+-- REGION_INTERSECT: the headers that are in both; 20 where the two W differ (FORMAT 45)
 pub region-intersect-promise :
     Promise region-intersect-call.Kinds.ps region-intersect-call.Kinds.r region-intersect-call.Reads.Asked region-intersect-call.Reads.Learnt
     (λ κs (s, (t, (old, _))) x (_, (_, (new, _))). Buffered (region-intersect (now s) (now t)) old x new)
@@ -165,7 +165,7 @@ module _ (w : ℕ) (s t : List ℕ) where
       → Written w (tidyRegion (subtraction (differenceAt w s 0) (differenceAt w t 0))) (diff-less w s t room .bytes)
   diff-less-written = Rewriting.diff-less-written w s t
 
--- REGION_LESS: the headers that are in the region and not in the difference. "Beside a region file all is of that file's W"
+-- REGION_LESS: the headers that are in the region and not in the difference, which has the file's W (FORMAT 65)
 pub region-less-promise : Promise region-less-call.Kinds.ps region-less-call.Kinds.r region-less-call.Reads.Asked region-less-call.Reads.Learnt
     (λ κs (s, (t, (old, _))) x (_, (_, (new, _))). Buffered (region-less (now s) (now t)) old x new)
 region-less-promise = record { anything = λ κs a. tt; permits = λ κs a x e. permitted }

@@ -29,7 +29,7 @@ use Rattle.promises.specs.Outcome.{Promise, OneResult, SameStretch}
 use Rattle.promises.specs.Accepted.{Accepted, Indexed}
 use Rattle.promises.proofs.Agreeing.{same-result}
 
--- VIEW. "A cube by difference and index (0 is the base) is handed back as that stretch of the caller's file."
+-- VIEW: a cube, as the stretch of the file where it stands (FORMAT 88)
 pub view-promise : Promise view-call.Kinds.ps view-call.Kinds.r view-call.Reads.Asked view-call.Reads.Learnt
     (λ κs (s, (d, (i, _))) x e. StretchIs s d i x)
 view-promise = record { anything = λ κs a. tt; permits = λ κs a x e l. l }
@@ -38,7 +38,7 @@ pub view-agrees : (s : RefT (List ℕ)) (d i : ℕ) (r r′ : RefT (List ℕ)) �
 view-agrees s d i r r′ p q =
     (p .bytes ∙ sym (q .bytes), ap₂ (λ (b o : ℕ). (b, o)) (p .block ∙ sym (q .block)) (p .place ∙ sym (q .place)))
 
--- VIEW_NUMBER. "A separate question returns the number: for an index 1, 23 or the file's refusal"
+-- VIEW_NUMBER: the number of a view, as a question of its own (FORMAT 91)
 pub view-number-promise : Promise view-number-call.Kinds.ps view-number-call.Kinds.r view-number-call.Reads.Asked view-number-call.Reads.Learnt
     (λ κs (s, (d, (i, _))) x e. x ≡ view (now s) d i .answer)
 view-number-promise = record { anything = λ κs a. tt; permits = λ κs a x e l. l }
@@ -85,7 +85,7 @@ module _ (s : List ℕ) (d i : ℕ) where
   unfolding view
   view-refused f = sym (reached 0 _ f)
 
-  -- "A refusal or no such cube gives a stretch of length 0."
+  -- FORMAT 90: no cube, so no bytes
   pub view-nothing : (view s d i .answer .number ≡ 1 → ⊥) → view s d i .size ≡ 0
   unfolding view
   view-nothing = each (λ (v : Viewed). (v .answer .number ≡ 1 → ⊥) → v .size ≡ 0) _ (omega arith)

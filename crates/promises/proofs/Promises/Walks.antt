@@ -74,7 +74,7 @@ module _ (w : ℕ) (s : List ℕ) (n : ℕ) where
       let d = decide n 0 (walk (differenceAt w s 0)) in
       walk-kept _ (omega arith) (λ some narrow sound fits. deciding-shows w d) (diff-empty-decides room) (λ (lent, fits). fits)
 
--- "the count is that walk's and never above the ceiling"
+-- FORMAT 121: no count is above the ceiling
 module _ (w : ℕ) (s : List ℕ) where
   pub count-at-most-ceiling : (n room : ℕ) → n ≤ mostPieces → diff-empty w s n room .answer .count ≤ ceiling-of w s .answer .count
   count-at-most-ceiling = empty-at-most-ceiling w s
@@ -120,7 +120,7 @@ module _ (s : List ℕ) (n : ℕ) where
       at-most (ceilings r) _ (omega arith)
       (λ sound fits. omega (arith, count-at-most-pieces (widthOf s) n (stop n (map walk r)) (walkRegion r), pieces-at-most-ceilings r))
 
--- DIFF_IN. "yes is inclusion, no shows a header in A and outside B"
+-- DIFF_IN: whether all of the first lies in the second, or a header that does not (FORMAT 114)
 pub diff-in-promise : Promise diff-in-call.Kinds.ps diff-in-call.Kinds.r diff-in-call.Reads.Asked diff-in-call.Reads.Learnt
     (λ κs (w, (s, (t, (n, (old, _))))) x (_, (_, (_, (_, (new, _))))). Buffered (diff-in w (now s) (now t) n) old x new)
 diff-in-promise = record { anything = λ κs a. tt; permits = λ κs a x e. permitted }
@@ -173,7 +173,7 @@ module _ (w : ℕ) (s t : List ℕ) (n : ℕ) where
       at-most (ceilings r) _ (omega arith)
       (λ some narrow first second fits. omega (arith, count-at-most-pieces w n (stop n (walksLess a b)) (walkRegion r), pieces-at-most-ceilings r))
 
--- CEILING. "The ceiling of demand 3 can be asked for one difference"; "0: written, or the ceiling, which is then the count"
+-- CEILING: that of a difference, given as the count (FORMAT 32, 116)
 pub ceiling-promise : Promise ceiling-call.Kinds.ps ceiling-call.Kinds.r ceiling-call.Reads.Asked ceiling-call.Reads.Learnt
     (λ κs (w, (s, _)) x e. x ≡ ceiling-of w (now s) .answer)
 ceiling-promise = record { anything = λ κs a. tt; permits = λ κs a x e l. l }
