@@ -1,4 +1,4 @@
-//! Fixed questions with the answers that the readings and document 01 give for them.
+//! Fixed questions with the answers that docs/FORMAT.md and docs/DECISIONS.md give for them.
 
 use crate::notation::{c, f, h, r, w1};
 

@@ -1,4 +1,4 @@
-//! A second implementation of document 01 (permit regions), written from the document alone.
+//! A second implementation of docs/FORMAT.md (permit regions), written from the paper alone and not from the first.
 //!
 //! Cubes are kept as strings of 0, 1 and x and every rule is followed the way the document says
 //! it, so that each function can be held against its sentence. Numbers such as 13 or 22 are those

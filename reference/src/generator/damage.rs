@@ -1,4 +1,4 @@
-//! Damage to lent bytes: nearly what document 01 wants.
+//! Damage to lent bytes: nearly what docs/FORMAT.md wants.
 
 use super::random::Random;
 use crate::cube::Cube;

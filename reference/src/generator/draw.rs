@@ -1,4 +1,4 @@
-//! Questions with arguments that are as document 01 wants them.
+//! Questions with arguments that are as docs/FORMAT.md wants them.
 
 use super::crowds;
 use super::random::Random;
