@@ -1,7 +1,7 @@
 -- Differences of w positions with u unused places behind each cube: as free positions these change nothing of what is made and walked of them.
 --   tidy-padded, intersections-padded, subtractions-padded    the operations on regions
---   walk-padded, inclusion-padded, less-padded    the walk of a difference, that of inclusion, and those of its pieces
---   stop-padded         where walks stop
+--   walk-padded, less-padded    the walk of a difference, and those of the pieces of a subtraction
+--   turn-padded, stop-padded    walks one after another, and where they stop
 use Prim.Native.Nat.{ℕ, _-_}
 use mathlib.Core.Path.{_≡_, refl, sym, ap, ap₂, _∙_}
 use mathlib.Core.List.{List, [], _∷_, _++_, map, map-append}
@@ -12,9 +12,9 @@ use Rattle.model.specs.Difference.{Difference, less, Region}
 use Rattle.model.specs.Sized.{All, Sized, Good}
 use Rattle.model.specs.Tidy.{tidy, each, tidyRegion}
 use Rattle.model.specs.Algebra.{intersection, intersections, restored, subtraction, subtractions}
-use Rattle.model.specs.Walk.{Survivor, nothing, piece, Found, walk, walkRegion, walkInclusion, walkBack, walksLess, covered, covers, stop}
+use Rattle.model.specs.Walk.{Survivor, nothing, piece, Found, next, inTurn, walk, walkBack, walksLess, covered, covers, stop}
 use Rattle.model.specs.Padding.{pad, padSurvivor, padFound, padDifference}
-use Rattle.model.proofs.Padding.{sized-lengths, meet-pad, shares-pad, in-turn-pad, visit-pad, tidy-pad}
+use Rattle.model.proofs.Padding.{sized-lengths, meet-pad, shares-pad, next-pad, visit-pad, tidy-pad}
 use Rattle.model.proofs.Cubes.{length-meet}
 use Rattle.model.proofs.Setting.{good-subtraction}
 
@@ -69,12 +69,9 @@ module _ (w u : ℕ) where
   pub walk-padded : (d : Difference) → Good w d → walk (padDifference u d) ≡ padFound u (walk d)
   walk-padded d g = visit-pad u w (d .cuts) (d .base) (sized-lengths w (d .cuts) (g .cuts)) (g .base .wide)
 
-  region-padded : (r : Region) → All (Good w) r → walkRegion (P r) ≡ padFound u (walkRegion r)
-  region-padded = in-turn-pad u (Good w) (padDifference u) walk walk walk-padded
-
-  pub inclusion-padded : (a b : Difference) → Good w a → Good w b
-      → walkInclusion (padDifference u a) (padDifference u b) ≡ padFound u (walkInclusion a b)
-  inclusion-padded a b g h = ap walkRegion (subtraction-padded a b g h) ∙ region-padded (subtraction a b) (good-subtraction w a b g h)
+  pub turn-padded : (vs : List Found) → inTurn (λ v. v) (map (padFound u) vs) ≡ padFound u (inTurn (λ v. v) vs)
+  turn-padded [] = refl
+  turn-padded (v ∷ vs) = ap (next (padFound u v)) (turn-padded vs) ∙ next-pad u v (inTurn (λ v. v) vs)
 
   covers-padded : (n : ℕ) (v : Found) → covers n (padFound u v) ≡ covers n v
   covers-padded n v = ap (λ (b : Bool). leb (v .pieces) n && b) (go (v .survivor))

@@ -1,20 +1,22 @@
 -- The walk over the bytes of an accepted record is the model's walk of its difference, and what its outcome tells.
 --   record-walk, record-ceiling    the walk over the bytes, with the unused places behind each cube, and the ceiling
---   outcome-told         what is told of how walks ended that began on a fresh allowance is the decision of the model's walk
+--   outcome-told         what is told of how a walk ended that began on a fresh allowance is the decision of the model's walk
+--   ends-told            likewise of walks one after another
 use Prim.Native.Nat.{ℕ, _*_, _≤_}
+use native.Mathlib.Nat.{zero-add}
 use mathlib.Core.Path.{_≡_, refl, ap, _∙_}
 use mathlib.Core.Bool.{Bool}
-use mathlib.Core.List.{List}
+use mathlib.Core.List.{List, map}
 use lib.ListN.{take, replicate}
 use lib.Seq.{take-take, take-at}
 use Rattle.model.specs.Cube.{free, Cube}
 use Rattle.model.specs.Sized.{Sized}
-use Rattle.model.specs.Walk.{piece, Found, walk, Decision, undecided, empty, member, decide}
+use Rattle.model.specs.Walk.{piece, Found, inTurn, walk, stop, Decision, undecided, empty, member, decide}
 use Rattle.model.specs.Padding.{padFound}
 use Rattle.model.proofs.Allowed.{decided-when, undecided-when, decide-by}
 use Rattle.model.specs.Ceiling.{ceiling}
 use Rattle.model.proofs.Padding.{sized-lengths, ceiling-pad}
-use Rattle.model.proofs.PaddedOperations.{walk-padded}
+use Rattle.model.proofs.PaddedOperations.{walk-padded, turn-padded, stop-padded}
 use Rattle.format.specs.Bytes.{cubeLen, codes, unused}
 use Rattle.format.specs.Records.{differenceAt}
 use Rattle.format.specs.Told.{deciding}
@@ -25,6 +27,7 @@ use Rattle.region.proofs.Fronts.{whole-record}
 use Rattle.cube.specs.Whole.{cubeOf}
 use Rattle.cube.proofs.Member.{codes-take}
 use Rattle.visits.specs.Settle.{says, kept, settle, decisionOf, decision}
+use Rattle.walk.specs.Ending.{Ends}
 use Rattle.walk.specs.Tell.{toldOf}
 use Rattle.visits.specs.declared.allowance.Verdict.{Verdict}
 use Rattle.visits.specs.declared.allowance.Verdict.the-variants.{Covered, Survives, Undecided}
@@ -68,3 +71,9 @@ outcome-told w q u n v r h l e =
     outcome-front w q (o .verdict) (o .allowance .spent) (r .index) (o .piece) h
     ∙ ap (λ d. deciding w (front w d)) (ap (decision (r .index)) e ∙ decision-settle n (r .index) (padFound u v))
     ∙ ap (deciding w) (front-padded w u n (r .index) v l)
+
+pub ends-told : (w q u n : ℕ) (vs : List Found) (x : Stop) → w ≤ 4 * q → ((p : Cube) → inTurn (λ v. v) vs .survivor ≡ piece p → Sized w p)
+    → Ends q (record { left = n; spent = 0 }) 0 (map (padFound u) vs) x → toldOf w x ≡ deciding w (decide n (stop n vs) (inTurn (λ v. v) vs))
+ends-told w q u n vs x h l e =
+    outcome-told w q u n (inTurn (λ v. v) vs) x h l (e .outcome ∙ ap (settle (record { left = n; spent = 0 })) (turn-padded w u vs))
+    ∙ ap (λ (i : ℕ). deciding w (decide n i (inTurn (λ v. v) vs))) (e .index ∙ zero-add _ ∙ stop-padded w u n vs)

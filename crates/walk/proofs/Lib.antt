@@ -1,6 +1,7 @@
 -- What the proofs of several functions use, and what is proved of the definitions alone.
 pub mod Frees
 pub mod Recorded
+pub mod Ended
 pub mod Accepted
 pub mod Emptied
 pub mod Moved

@@ -7,7 +7,7 @@ ghost use Rattle.format.specs.Records.{widthOf};
 ghost use Rattle.format.specs.Files.{readFile, faultNumber, regionIn};
 ghost use Rattle.format.specs.Told.{over};
 ghost use Rattle.format.specs.Calls.{diff-empty, region-empty};
-ghost use Rattle.walk.specs.Ending.{Empties};
+ghost use Rattle.walk.specs.Ending.{Ends, wholeWalks};
 use super::record::walk_record;
 use super::stop::Stop;
 use super::stop::all_covered;
@@ -46,7 +46,7 @@ pub fn diff_empty(w: usize, s: &[u8], allowance: u32, out: &mut [u8]) -> Answer
 // Walks the differences of an accepted file, whose cubes have q bytes, one after another on one allowance, up to the first that is not covered.
 fn walk_file(q: usize, s: &[u8], a: Allowance) -> Stop
     requires { ⌜ (q ≡ cubeLen (widthOf (now s))) × (faultNumber (readFile (now s)) ≡ 0) × (a .left + a .spent < 2 ^ 32) ⌝ }
-    ensures { λ r. ⌜ Empties q a (widthOf (now (s .entry))) (regionIn (now (s .entry))) r ⌝ }
+    ensures { λ r. ⌜ Ends q a 0 (wholeWalks (widthOf (now (s .entry))) (regionIn (now (s .entry)))) r ⌝ }
 {
     let mut have = a;
     let mut at = first_at(s);

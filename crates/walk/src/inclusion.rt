@@ -1,16 +1,17 @@
 // Whether each header of one difference is in another, or one that is not.
 ghost use mathlib.Core.Path.{_≡_};
 ghost use Prim.Native.Nat.{_+_, _^_, _≤_, _<_};
+ghost use mathlib.Core.List.{map};
 ghost use lib.ListN.{length};
 ghost use Rattle.model.specs.Cube.{meet};
-ghost use Rattle.model.specs.Walk.{visit, walkBack};
+ghost use Rattle.model.specs.Walk.{visit, walkBack, walksLess};
 ghost use Rattle.format.specs.Limits.{widestCube};
 ghost use Rattle.format.specs.Told.{over};
 ghost use Rattle.format.specs.Calls.{diff-in};
 ghost use Rattle.cube.specs.Whole.{cubeOf, wholeAt, wholesAt};
 ghost use Rattle.region.specs.Front.{Stands, wholeDifference};
 ghost use Rattle.walk.specs.Lent.{Pair, lessCuts};
-ghost use Rattle.walk.specs.Ending.{Backs, Includes};
+ghost use Rattle.walk.specs.Ending.{Ends};
 ghost use Rattle.visits.specs.Settle.{settle, says};
 use super::record::load;
 use super::stop::Stop;
@@ -95,7 +96,7 @@ fn walk_back(q: usize, s: &[u8], f: Front, t: &[u8], at: usize, a: Allowance) ->
 // walked before, is counted.
 fn walk_restored(q: usize, s: &[u8], f: Front, t: &[u8], g: Front, a: Allowance) -> Stop
     requires { ⌜ Pair q (now s) f (now t) g × (a .left + a .spent < 2 ^ 32) ⌝ }
-    ensures { λ r. ⌜ Backs q a (wholeDifference q (now (s .entry)) f) (wholeDifference q (now (t .entry)) g .cuts) r ⌝ }
+    ensures { λ r. ⌜ Ends q a 1 (map (walkBack (wholeDifference q (now (s .entry)) f)) (wholeDifference q (now (t .entry)) g .cuts)) r ⌝ }
 {
     let mut have = a;
     let mut at = g.base + q;
@@ -124,7 +125,7 @@ fn walk_restored(q: usize, s: &[u8], f: Front, t: &[u8], g: Front, a: Allowance)
 // Walks the untidied pieces of s less t in their order on one allowance, up to the first that is not covered.
 fn walk_less(q: usize, s: &[u8], f: Front, t: &[u8], g: Front, a: Allowance) -> Stop
     requires { ⌜ Pair q (now s) f (now t) g × (a .left + a .spent < 2 ^ 32) ⌝ }
-    ensures { λ r. ⌜ Includes q a (wholeDifference q (now (s .entry)) f) (wholeDifference q (now (t .entry)) g) r ⌝ }
+    ensures { λ r. ⌜ Ends q a 0 (walksLess (wholeDifference q (now (s .entry)) f) (wholeDifference q (now (t .entry)) g)) r ⌝ }
 {
     let v = walk_first(q, s, f, t, g, a);
     let k = v.verdict;

@@ -1,11 +1,10 @@
 -- `walk::inclusion::walk_less` meets its contract.
-use Prim.Native.Nat.{ℕ, suc, _+_}
 use native.Mathlib.Omega.{arith}
-use mathlib.Core.Path.{_≡_, sym, _∙_}
 use borrow.Author.Needs.{needs}
-use Rattle.visits.proofs.Settle.{settle-keeps, said-on, said-stop, stop-covered, stop-decided}
+use Rattle.visits.proofs.Settle.{settle-keeps}
 use Rattle.visits.proofs.Turn.{is-covered, not-covered}
 use Rattle.visits.specs.Settle.{says}
+use Rattle.walk.proofs.Ended.{ends-here, ends-turn}
 use Rattle.walk.proofs.inclusion.walk_less.Statement.{statement}
 use Rattle.walk.proofs.inclusion.walk_less.Tie as tie
 
@@ -19,9 +18,7 @@ returns : tie.Need-returns
 returns c =
     let x = c .before .before .before .before .args in
     let v = c .before .walk-first in
-    let d = says (x .q) (v .result) in
-    let k = not-covered (v .result .verdict) (c .match .keys2) in
-    record { outcome = said-stop (x .a) _ _ d (v .ensures) k; index = sym (stop-decided (x .a) _ d (v .ensures) k _) }
+    ends-here (x .q) (x .a) 0 _ _ (v .result) (v .ensures) (not-covered (v .result .verdict) (c .match .keys2))
 
 walk-restored-requires : tie.Need-walk-restored-requires
 walk-restored-requires c κs =
@@ -33,15 +30,8 @@ returns-2 : tie.Need-returns-2
 returns-2 c =
     let x = c .before .before .before .before .before .before .args in
     let v = c .before .before .before .walk-first in
-    let d = says (x .q) (v .result) in
-    let k = is-covered (v .result .verdict) (c .before .before .match .keys1) in
-    record {
-      outcome = c .walk-restored .ensures .outcome ∙ sym (said-on (x .a) _ _ d (v .ensures) k);
-      index = c .walk-restored .ensures .index ∙ one-suc _ ∙ sym (stop-covered (x .a) _ d (v .ensures) k _);
-    }
-  where
-    one-suc : (n : ℕ) → 1 + n ≡ suc n
-    one-suc n = omega arith
+    let covered = is-covered (v .result .verdict) (c .before .before .match .keys1) in
+    ends-turn (x .q) (x .a) 0 _ _ (v .result) (v .ensures) covered (c .walk-restored .result) (c .walk-restored .ensures)
 
 pub walk-less-spec : {M : Type 1} → statement M
 walk-less-spec =
