@@ -26,7 +26,7 @@ use Rattle.model.proofs.Bools.{or-none}
 use Rattle.format.specs.Limits.{widest, mostCuts, mostDifferences, widthKind}
 use Rattle.format.specs.Bytes.{Bytes}
 use Rattle.format.specs.Records.{countAt, lengthAt, kindAt, nextAt, widthOf, firstAt, widthRows, widthFault, differenceFault, differenceBytes, differencesBytes, widthBytes, fileBytes}
-use Rattle.format.specs.Files.{Reading, refused, whole, faultNumber, offsets, before, differencesFrom, readFile, regionOf, regionIn}
+use Rattle.format.specs.Files.{Reading, faulty, whole, faultNumber, offsets, before, differencesFrom, readFile, regionOf, regionIn}
 use Rattle.format.specs.Told.{anyLong}
 use Rattle.format.proofs.Reached.{reached, clean}
 use Rattle.format.proofs.Recording.{u16-same, Record, record-of, drop-past, length-written, bytes-written, bytes-append, next-read, difference-read, record-accepted, cuts-count, good-read, bytes-read}
@@ -39,7 +39,7 @@ module _ (w : ℕ) (s : List ℕ) (at n : ℕ) where
   from-end (suc t) h = rw (le-leb (length s) at h)
 
   turn-refused : (t : ℕ) → at < length s → (differenceFault false w n s at ≡ 0 → ⊥)
-      → differencesFrom (suc t) w s at n ≡ refused (differenceFault false w n s at) at
+      → differencesFrom (suc t) w s at n ≡ faulty (differenceFault false w n s at) at
   unfolding differencesFrom
   turn-refused t h f = rw (lt-leb (length s) at h, ne-eqb (differenceFault false w n s at) 0 f)
 
@@ -49,7 +49,7 @@ module _ (w : ℕ) (s : List ℕ) (at n : ℕ) where
   turn-record t h f = rw (lt-leb (length s) at h, eq-eqb (differenceFault false w n s at) 0 f)
 
   pub from-refused : n ≤ at → at < length s → (differenceFault false w n s at ≡ 0 → ⊥)
-      → differencesFrom (length s - n) w s at n ≡ refused (differenceFault false w n s at) at
+      → differencesFrom (length s - n) w s at n ≡ faulty (differenceFault false w n s at) at
   from-refused h l f = let e : length s - n ≡ suc (length s - (n + 1)) = omega arith in rw e (turn-refused (length s - (n + 1)) l f)
 
   pub from-record : n ≤ at → at < length s → differenceFault false w n s at ≡ 0
@@ -57,11 +57,11 @@ module _ (w : ℕ) (s : List ℕ) (at n : ℕ) where
   from-record h l f = let e : length s - n ≡ suc (length s - (n + 1)) = omega arith in rw e (turn-record (length s - (n + 1)) l f)
 
 pub before-number : (at : ℕ) (r : Reading) → faultNumber (before at r) ≡ faultNumber r
-before-number at (refused f o) = refl
+before-number at (faulty f o) = refl
 before-number at (whole os) = refl
 
 -- kind 1
-pub read-refused : (s : List ℕ) → (widthFault s ≡ 0 → ⊥) → readFile s ≡ refused (widthFault s) 0
+pub read-refused : (s : List ℕ) → (widthFault s ≡ 0 → ⊥) → readFile s ≡ faulty (widthFault s) 0
 unfolding readFile
 read-refused s f = rw (ne-eqb (widthFault s) 0 f)
 

@@ -9,7 +9,7 @@ use lib.Dec.{leb, eqb}
 use lib.ListN.{length, take, drop}
 use Rattle.format.specs.Bytes.{cubeLen, cubeRows, cubeFault, lentRows, lentFault}
 use Rattle.format.specs.Records.{countAt, baseAt, nextAt, widthOf, firstAt, widthRows, widthFault, cubesFault, differenceRows, differenceFault}
-use Rattle.format.specs.Files.{refused, whole, faultNumber, before, differencesFrom, readFile}
+use Rattle.format.specs.Files.{faulty, whole, faultNumber, before, differencesFrom, readFile}
 use Rattle.format.proofs.Reached.{each}
 use Rattle.format.proofs.Filing.{before-number}
 
@@ -48,7 +48,7 @@ module _ (w : ℕ) (s : List ℕ) where
       let f = differenceFault false w n s at in
       let rest = differencesFrom t w s (nextAt s at) (n + 1) in
       let begun : Refusal (faultNumber (before at rest)) = rw (before-number at rest) (from-refusal t (nextAt s at) (n + 1)) in
-      either faultNumber (leb (length s) at) (whole []) _ (omega arith) (either faultNumber (eqb f 0) _ (refused f at) begun (record-refusal false n at))
+      either faultNumber (leb (length s) at) (whole []) _ (omega arith) (either faultNumber (eqb f 0) _ (faulty f at) begun (record-refusal false n at))
 
 pub width-refusal : (s : List ℕ) → Refusal (widthFault s)
 unfolding widthFault
@@ -56,4 +56,4 @@ width-refusal s = each Refusal (widthRows s) (omega arith)
 
 pub file-refusal : (s : List ℕ) → Refusal (faultNumber (readFile s))
 unfolding readFile
-file-refusal s = either faultNumber (eqb (widthFault s) 0) _ (refused (widthFault s) 0) (from-refusal (widthOf s) s (length s) (firstAt s) 0) (width-refusal s)
+file-refusal s = either faultNumber (eqb (widthFault s) 0) _ (faulty (widthFault s) 0) (from-refusal (widthOf s) s (length s) (firstAt s) 0) (width-refusal s)

@@ -86,7 +86,7 @@ wider-number w a b =
 
 -- membership; the C host asks region-member and region-empty (FORMAT 100)
 
--- FORMAT 64
+-- FORMAT 7, 64
 unfoldable pub diff-member : ℕ → List ℕ → List ℕ → Told
 diff-member w s h =
     outcome
@@ -95,7 +95,7 @@ diff-member w s h =
     (lentHeader w h
     (yesOr (inDifference (differenceAt w s 0) (readHeader w h))))))
 
--- FORMAT 64, 65, 100
+-- FORMAT 9, 64, 65, 100: some difference holds the header, and one of them is the first
 unfoldable pub region-member : List ℕ → List ℕ → Told
 region-member s h =
     outcome

@@ -1,5 +1,5 @@
 -- Region files, read.
---   Reading                == a refusal with its number and offset, or the offsets of the file's differences in their order
+--   Reading                == `faulty`, with the number and the offset of the refusal, or `whole`, with the offsets of the file's differences in order
 --   before at r            == the reading r with the record at an offset read before it
 --   differencesFrom t w s at n == the kind 2 records from an offset on, with n before it and at most t to come
 --   readFile s             == the file s
@@ -15,24 +15,24 @@ use Rattle.model.specs.Difference.{Region}
 use Rattle.format.specs.Records.{nextAt, widthOf, firstAt, widthFault, differenceFault, differenceAt}
 
 pub data Reading : Type 0 where
-  refused : ℕ → ℕ → Reading
+  faulty : ℕ → ℕ → Reading
   whole : List ℕ → Reading
 
 abbrev pub faultNumber : Reading → ℕ
-faultNumber (refused f at) = f
+faultNumber (faulty f at) = f
 faultNumber (whole os) = 0
 
 -- FORMAT 27
 abbrev pub faultOffset : Reading → ℕ
-faultOffset (refused f at) = at
+faultOffset (faulty f at) = at
 faultOffset (whole os) = 0
 
 abbrev pub offsets : Reading → List ℕ
-offsets (refused f at) = []
+offsets (faulty f at) = []
 offsets (whole os) = os
 
 abbrev pub before : ℕ → Reading → Reading
-before at (refused f o) = refused f o
+before at (faulty f o) = faulty f o
 before at (whole os) = whole (at ∷ os)
 
 unfoldable pub differencesFrom : ℕ → ℕ → List ℕ → ℕ → ℕ → Reading
@@ -40,14 +40,14 @@ differencesFrom zero w s at n = whole []
 differencesFrom (suc t) w s at n =
     let f = differenceFault false w n s at in
     let rest = before at (differencesFrom t w s (nextAt s at) (n + 1)) in
-    let here = cond (eqb f 0) rest (refused f at) in
+    let here = cond (eqb f 0) rest (faulty f at) in
     cond (leb (length s) at) (whole []) here
 
 -- FORMAT 24, 63. A record is not empty, so a file has no more records than bytes.
 unfoldable pub readFile : List ℕ → Reading
 readFile s =
     let rest = differencesFrom (length s) (widthOf s) s (firstAt s) 0 in
-    cond (eqb (widthFault s) 0) rest (refused (widthFault s) 0)
+    cond (eqb (widthFault s) 0) rest (faulty (widthFault s) 0)
 
 abbrev pub regionOf : ℕ → List ℕ → List ℕ → Region
 regionOf w s os = map (differenceAt w s) os

@@ -16,7 +16,7 @@ use lib.ListN.{length, length-append}
 use Rattle.model.specs.Difference as model
 use Rattle.model.specs.Difference.{unheld, held, further}
 use Rattle.format.specs.Records.{nextAt, widthOf, firstAt, widthFault, differenceFault}
-use Rattle.format.specs.Files.{Reading, refused, whole, faultNumber, faultOffset, offsets, before, differencesFrom, readFile}
+use Rattle.format.specs.Files.{Reading, faulty, whole, faultNumber, faultOffset, offsets, before, differencesFrom, readFile}
 use Rattle.format.proofs.Filing.{from-end, from-refused, from-record, read-refused, read-begun}
 use Rattle.region.specs.declared.member.Holder.{Holder}
 use Rattle.region.specs.declared.member.Holder.the-variants.{Unheld}
@@ -24,15 +24,15 @@ use Rattle.region.specs.Asked.{inRecord, firstRecord, holderOf, orHeld}
 use Rattle.region.specs.Reader.{FileIs, refusal, AskedIs, unasked}
 
 abbrev pub after : List ℕ → Reading → Reading
-after os (refused f at) = refused f at
+after os (faulty f at) = faulty f at
 after os (whole rest) = whole (os ++ rest)
 
 after-none : (r : Reading) → r ≡ after [] r
-after-none (refused f at) = refl
+after-none (faulty f at) = refl
 after-none (whole os) = refl
 
 after-one : (os : List ℕ) (at : ℕ) (r : Reading) → after os (before at r) ≡ after (os ++ (at ∷ [])) r
-after-one os at (refused f o) = refl
+after-one os at (faulty f o) = refl
 after-one os at (whole rest) = ap whole (sym (append-assoc os (at ∷ []) rest))
 
 pub record Reached (s : List ℕ) (at n : ℕ) : Type 0 where
@@ -52,7 +52,7 @@ begun s e =
 
 -- a file's parts by its reading
 module _ (s : List ℕ) where
-  of-refused : (f at : ℕ) → readFile s ≡ refused f at → FileIs s (refusal f at (widthOf s))
+  of-refused : (f at : ℕ) → readFile s ≡ faulty f at → FileIs s (refusal f at (widthOf s))
   of-refused f at q =
       record { number = sym (ap faultNumber q); offset = sym (ap faultOffset q); width = refl; count = ap length (sym (ap offsets q)) }
 
@@ -61,8 +61,8 @@ module _ (s : List ℕ) where
   of-whole os n e q =
       record { number = sym (ap faultNumber q); offset = sym (ap faultOffset q); width = refl; count = sym e ∙ ap length (sym (ap offsets q)) }
 
-  refused-wide : (f : ℕ) → f ≡ widthFault s → (f ≡ 0 → ⊥) → readFile s ≡ refused f 0
-  refused-wide f e z = read-refused s (λ y. z (e ∙ y)) ∙ ap (λ (g : ℕ). refused g 0) (sym e)
+  refused-wide : (f : ℕ) → f ≡ widthFault s → (f ≡ 0 → ⊥) → readFile s ≡ faulty f 0
+  refused-wide f e z = read-refused s (λ y. z (e ∙ y)) ∙ ap (λ (g : ℕ). faulty g 0) (sym e)
 
   pub width-refused : (f : ℕ) → f ≡ widthFault s → (f ≡ 0 → ⊥) → FileIs s (refusal f 0 (widthOf s))
   width-refused f e z = of-refused f 0 (refused-wide f e z)
@@ -80,9 +80,9 @@ module _ {s : List ℕ} {at n : ℕ} (r : Reached s at n) where
             ∙ after-one (r .passed) at (differencesFrom (length s - (n + 1)) (widthOf s) s (nextAt s at) (n + 1));
       }
 
-  refused-here : (f : ℕ) → at < length s → f ≡ differenceFault false (widthOf s) n s at → (f ≡ 0 → ⊥) → readFile s ≡ refused f at
+  refused-here : (f : ℕ) → at < length s → f ≡ differenceFault false (widthOf s) n s at → (f ≡ 0 → ⊥) → readFile s ≡ faulty f at
   refused-here f l e z =
-      r .read ∙ ap (after (r .passed)) (from-refused (widthOf s) s at n (r .fewer) l (λ y. z (e ∙ y))) ∙ ap (λ (g : ℕ). refused g at) (sym e)
+      r .read ∙ ap (after (r .passed)) (from-refused (widthOf s) s at n (r .fewer) l (λ y. z (e ∙ y))) ∙ ap (λ (g : ℕ). faulty g at) (sym e)
 
   whole-here : length s ≤ at → readFile s ≡ whole (r .passed)
   whole-here l = r .read ∙ ap (after (r .passed)) (from-end (widthOf s) s at n (length s - n) l) ∙ ap whole (append-nil (r .passed))
@@ -119,7 +119,7 @@ pub asking : (s h : List ℕ) → widthFault s ≡ 0 → Asking s h (firstAt s) 
 unfolding begun
 asking s h e = record { reached = begun s e; asked = refl }
 
-none-asked : (s h : List ℕ) (f at : ℕ) → readFile s ≡ refused f at → AskedIs s h (unasked f at (widthOf s))
+none-asked : (s h : List ℕ) (f at : ℕ) → readFile s ≡ faulty f at → AskedIs s h (unasked f at (widthOf s))
 none-asked s h f at q = record { file = of-refused s f at q; holder = rw q refl }
 
 pub asked-width : (s h : List ℕ) (f : ℕ) → f ≡ widthFault s → (f ≡ 0 → ⊥) → AskedIs s h (unasked f 0 (widthOf s))

@@ -19,7 +19,7 @@ use Rattle.answer.specs.Answer.{no, fault, placed}
 use Rattle.format.specs.Rows.{passes, outcome}
 use Rattle.format.specs.Limits.{mostDifferences, differenceKind}
 use Rattle.format.specs.Records.{lengthAt, kindAt, nextAt, widthOf, firstAt, widthFault, differenceRows, differenceFault}
-use Rattle.format.specs.Files.{Reading, refused, whole, faultNumber, faultOffset, before, differencesFrom, readFile}
+use Rattle.format.specs.Files.{Reading, faulty, whole, faultNumber, faultOffset, before, differencesFrom, readFile}
 use Rattle.format.specs.Calls.{stay, startOf, read-on}
 use Rattle.format.proofs.Reached.{reached}
 use Rattle.format.proofs.Recording.{Record, record-of}
@@ -115,14 +115,14 @@ nothing-before [] = refl
 nothing-before (o ∷ os) = before-none 0 o os (omega arith)
 
 abbrev Stops : Reading → Type 0
-Stops (refused f at) = Unit {0}
+Stops (faulty f at) = Unit {0}
 Stops (whole os) = ⊥
 
-stops : {f o : ℕ} (r : Reading) → r ≡ refused f o → Stops r
+stops : {f o : ℕ} (r : Reading) → r ≡ faulty f o → Stops r
 stops r e = subst Stops (sym e) tt
 
-later-refused : {f o : ℕ} (at : ℕ) (r : Reading) → before at r ≡ refused f o → r ≡ refused f o
-later-refused at (refused g u) e = e
+later-refused : {f o : ℕ} (at : ℕ) (r : Reading) → before at r ≡ faulty f o → r ≡ faulty f o
+later-refused at (faulty g u) e = e
 later-refused at (whole os) e = absurd (stops (whole (at ∷ os)) e)
 
 -- the steps from p on give the records from an offset to o, and are then those from q on
@@ -156,7 +156,7 @@ module _ (s : List ℕ) (ok : widthFault s ≡ 0) where
 
   module _ (f o : ℕ) where
     abbrev Stops-at : ℕ → ℕ → ℕ → Type 0
-    Stops-at at n p = differencesFrom (length s - n) (widthOf s) s at n ≡ refused f o → Stopped s f at o p
+    Stops-at at n p = differencesFrom (length s - n) (widthOf s) s at n ≡ faulty f o → Stopped s f at o p
 
     stopped-turn : (at n p : ℕ) (a b : Bool) → leb (length s) at ≡ a → eqb (differenceFault false (widthOf s) n s at) 0 ≡ b → n ≤ at
         → startOf s p ≡ at
@@ -200,7 +200,7 @@ module _ (s : List ℕ) (ok : widthFault s ≡ 0) where
         let later = stopped-from t (nextAt s at) (n + 1) (nextAt s at) (omega arith) (omega arith) (start-next s at) in
         stopped-turn at n p (leb (length s) at) (eqb (differenceFault false (widthOf s) n s at) 0) refl refl k e later r
 
-    file-stopped : readFile s ≡ refused f o → Stopped s f (firstAt s) o 0
+    file-stopped : readFile s ≡ faulty f o → Stopped s f (firstAt s) o 0
     file-stopped e = stopped-from (length s) (firstAt s) 0 0 (omega arith) (omega arith) refl (sym (read-begun s ok) ∙ e)
 
     -- reading on refuses the record with the same number, if it is not for the count
@@ -214,7 +214,7 @@ module _ (s : List ℕ) (ok : widthFault s ≡ 0) where
 abbrev Comes : List ℕ → ℕ → ℕ → Type 0
 Comes s f at = (q : ℕ) × Goes s (firstAt s) 0 at q × ((f ≡ 19 → ⊥) → read-on s q ≡ stay (fault f 1 at) q)
 
-comes : (s : List ℕ) (f at : ℕ) (b : Bool) → eqb (widthFault s) 0 ≡ b → readFile s ≡ refused f at → Comes s f at
+comes : (s : List ℕ) (f at : ℕ) (b : Bool) → eqb (widthFault s) 0 ≡ b → readFile s ≡ faulty f at → Comes s f at
 comes s f at true x e =
     let ok = eqb-true (widthFault s) 0 x in
     let st = file-stopped s ok f at e in
@@ -225,7 +225,7 @@ comes s f at false x e =
     let here : Comes s (widthFault s) 0 = (0, λ m. rw (nothing-before (ahead s (firstAt s)), zero-add) refl, λ z. on-width s 0 wrong) in
     subst (λ (u : ℕ). Comes s f u) (ap faultOffset this) (subst (λ (u : ℕ). Comes s u 0) (ap faultNumber this) here)
 
-module _ (s : List ℕ) {f at : ℕ} (e : readFile s ≡ refused f at) where
+module _ (s : List ℕ) {f at : ℕ} (e : readFile s ≡ faulty f at) where
   pub passed-steps : answers (length (recordsBefore s at)) s 0 ≡ map placed (recordsBefore s at)
   passed-steps = rw (add-zero, append-nil) at (comes s f at (eqb (widthFault s) 0) refl e .1 0)
 

@@ -16,7 +16,7 @@ use lib.ListN.{length, replicate}
 use denote.Ref.{RefT, now}
 use Rattle.answer.specs.Answer.{no, fault, placed}
 use Rattle.format.specs.Records.{nextAt, widthOf, widthFault, differenceFault}
-use Rattle.format.specs.Files.{refused, whole, readFile}
+use Rattle.format.specs.Files.{faulty, whole, readFile}
 use Rattle.format.specs.Calls as calls
 use Rattle.format.specs.Calls.{stay, startOf, read-on}
 use Rattle.format.specs.Meaning.{Onward}
@@ -96,10 +96,10 @@ pub accepted-steps : (s : List ℕ) {os : List ℕ} → readFile s ≡ whole os 
     → answers (length os + m) s 0 ≡ map placed os ++ replicate m no
 accepted-steps = Stepping.accepted-steps
 
-pub passed-steps : (s : List ℕ) {f at : ℕ} → readFile s ≡ refused f at → answers (length (recordsBefore s at)) s 0 ≡ map placed (recordsBefore s at)
+pub passed-steps : (s : List ℕ) {f at : ℕ} → readFile s ≡ faulty f at → answers (length (recordsBefore s at)) s 0 ≡ map placed (recordsBefore s at)
 passed-steps = Stepping.passed-steps
 
-pub refused-steps : (s : List ℕ) {f at : ℕ} → readFile s ≡ refused f at → (f ≡ 19 → ⊥) → (m : ℕ)
+pub refused-steps : (s : List ℕ) {f at : ℕ} → readFile s ≡ faulty f at → (f ≡ 19 → ⊥) → (m : ℕ)
     → answers (length (recordsBefore s at) + m) s 0 ≡ map placed (recordsBefore s at) ++ replicate m (fault f 1 at)
 refused-steps = Stepping.refused-steps
 
