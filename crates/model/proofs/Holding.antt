@@ -43,8 +43,8 @@ pub held-first : (r : Region) (h : Header) (i : ℕ) → firstHolder r h ≡ hel
 held-first [] h i e = let no : _≡_ {A = ℕ} 0 1 = cc in absurd (omega arith)
 held-first (d ∷ r) h i e = go (inDifference d h) refl (firstHolder r h) refl (held-first r h) i e
   where
-    go : (b : Bool) → inDifference d h ≡ b → (x : Holder) → firstHolder r h ≡ x → ((k : ℕ) → firstHolder r h ≡ held k → First r h k) → (i : ℕ)
-        → cond b (held 0) (further x) ≡ held i → First (d ∷ r) h i
+    go : (b : Bool) → inDifference d h ≡ b → (x : Holder) → firstHolder r h ≡ x
+        → ((k : ℕ) → firstHolder r h ≡ held k → First r h k) → (i : ℕ) → cond b (held 0) (further x) ≡ held i → First (d ∷ r) h i
     go true t x f ih zero e = record { there = omega arith; holding = t; before = λ j l. absurd (omega arith) }
     go true t x f ih (suc i) e = let z : _≡_ {A = ℕ} 0 (suc i) = cc in absurd (omega arith)
     go false t unheld f ih i e = let no : _≡_ {A = ℕ} 0 1 = cc in absurd (omega arith)

@@ -1,7 +1,7 @@
 -- Asking a record for a header by bytes: one turn of the question, and what the answer means.
 --   any-none, any-here, any-next     no cube left; the header is in the first cube; it is not, so the others decide
 --   record-short, record-out, record-in   too few bytes lent; not in the base; in the base, so the cuts decide
---   held-before, held-now, held-not    the first holder with one record more: one was found before; this record is the first; it is not
+--   held-before, held-now    the first holder with one record more: one was found before; else this record decides
 --   record-member    of an accepted record the answer is whether the header is in the difference
 --   file-member      of the records of an accepted file, the first that it is true of is the first difference that holds the header
 use Prim.Native.Nat.{ℕ, zero, suc, _+_, _-_, _*_, _≤_, _<_}
@@ -71,18 +71,11 @@ module _ (x : Holder) (b : Bool) (n : ℕ) where
       go unheld e = absurd (true≢false (sym e))
       go (held i) e = refl
 
-  pub held-now : isHeld x ≡ false → (c : Bool) → c ≡ b → c ≡ true → held n ≡ orHeld x b n
-  held-now e c q t = go x e
+  pub held-now : isHeld x ≡ false → (c : Bool) (y : Holder) → c ≡ b → y ≡ cond c (held n) unheld → y ≡ orHeld x b n
+  held-now e c y q t = go x e
     where
-      go : (x : Holder) → isHeld x ≡ false → held n ≡ orHeld x b n
-      go unheld e = rw (← q, t)
-      go (held i) e = absurd (true≢false e)
-
-  pub held-not : isHeld x ≡ false → (c : Bool) → c ≡ b → c ≡ false → unheld ≡ orHeld x b n
-  held-not e c q t = go x e
-    where
-      go : (x : Holder) → isHeld x ≡ false → unheld ≡ orHeld x b n
-      go unheld e = rw (← q, t)
+      go : (x : Holder) → isHeld x ≡ false → y ≡ orHeld x b n
+      go unheld e = rw (← q) t
       go (held i) e = absurd (true≢false e)
 
 -- what the answer means, where c spells the header of the bytes h
@@ -116,6 +109,7 @@ module _ (w : ℕ) (h c : List ℕ) (narrow : w ≤ widest) (l : length h ≡ he
       let cuts = any-holds s (countAt s at) (base + q) (omega arith) (λ i j. rw (next i) (each-cube r (suc i) (omega arith))) in
       ap₂ (λ (x y : Bool). x && not y) first cuts
 
-  pub file-member : {s : List ℕ} {at n : ℕ} {os : List ℕ} → Listed w s at n os → firstRecord w c s os ≡ firstHolder (regionOf w s os) (readHeader w h)
+  pub file-member : {s : List ℕ} {at n : ℕ} {os : List ℕ} → Listed w s at n os
+      → firstRecord w c s os ≡ firstHolder (regionOf w s os) (readHeader w h)
   file-member (ended m) = refl
   file-member (listed r rest) = ap₂ (λ (b : Bool) (x : Holder). cond b (held 0) (further x)) (record-member r) (file-member rest)

@@ -105,7 +105,8 @@ further-or unheld true n = refl
 further-or unheld false n = refl
 further-or (held i) b n = refl
 
-first-append : (w : ℕ) (h s os : List ℕ) (at : ℕ) → firstRecord w h s (os ++ (at ∷ [])) ≡ orHeld (firstRecord w h s os) (inRecord w h s at) (length os)
+first-append : (w : ℕ) (h s os : List ℕ) (at : ℕ)
+    → firstRecord w h s (os ++ (at ∷ [])) ≡ orHeld (firstRecord w h s os) (inRecord w h s at) (length os)
 first-append w h s [] at = refl
 first-append w h s (o ∷ os) at = go (inRecord w h s o) (first-append w h s os at)
   where

@@ -97,7 +97,8 @@ width-accepted : (s : List ℕ) (b : Bool) → eqb (widthFault s) 0 ≡ b → fa
 width-accepted s true e z = eqb-true (widthFault s) 0 e
 width-accepted s false e z = let f = eqb-false (widthFault s) 0 e in sym (ap faultNumber (read-refused s f)) ∙ z
 
-pub accepted-steps : (s : List ℕ) {os : List ℕ} → readFile s ≡ whole os → (m : ℕ) → answers (length os + m) s 0 ≡ map placed os ++ replicate m no
+pub accepted-steps : (s : List ℕ) {os : List ℕ} → readFile s ≡ whole os → (m : ℕ)
+    → answers (length os + m) s 0 ≡ map placed os ++ replicate m no
 accepted-steps s e m =
     let f = file-of s (ap faultNumber e) in
     let z = width-accepted s (eqb (widthFault s) 0) refl (ap faultNumber e) in
@@ -229,7 +230,8 @@ module _ (s : List ℕ) {f at : ℕ} (e : readFile s ≡ faulty f at) where
   pub passed-steps : answers (length (recordsBefore s at)) s 0 ≡ map placed (recordsBefore s at)
   passed-steps = rw (add-zero, append-nil) at (comes s f at (eqb (widthFault s) 0) refl e .1 0)
 
-  pub refused-steps : (f ≡ 19 → ⊥) → (m : ℕ) → answers (length (recordsBefore s at) + m) s 0 ≡ map placed (recordsBefore s at) ++ replicate m (fault f 1 at)
+  pub refused-steps : (f ≡ 19 → ⊥) → (m : ℕ)
+      → answers (length (recordsBefore s at) + m) s 0 ≡ map placed (recordsBefore s at) ++ replicate m (fault f 1 at)
   refused-steps z m =
       let c = comes s f at (eqb (widthFault s) 0) refl e in
       c .1 m ∙ ap (λ (l : List Answer). map placed (recordsBefore s at) ++ l) (stuck s (c .0) (fault f 1 at) (c .2 z) m)

@@ -91,7 +91,8 @@ pub record FileLeft (q : ℕ) (s : List ℕ) (a have : Allowance) (at i : ℕ) :
   pub fewer : i ≤ at
   pub ends : (x : Stop) → Ends q have i (wholeWalks (widthOf s) (regionAhead (widthOf s) s at)) x → Ends q a 0 (wholeWalks (widthOf s) (regionIn s)) x
 
-pub file-begun : {q : ℕ} {s : List ℕ} {a : Allowance} → q ≡ cubeLen (widthOf s) → File s → a .left + a .spent < 2 ^ 32 → FileLeft q s a a (firstAt s) 0
+pub file-begun : {q : ℕ} {s : List ℕ} {a : Allowance} → q ≡ cubeLen (widthOf s) → File s → a .left + a .spent < 2 ^ 32
+    → FileLeft q s a a (firstAt s) 0
 file-begun {q} {s} {a} e f l =
     record {
       size = e;

@@ -48,7 +48,8 @@ pub cuts-begun : {a : Difference} {q : ℕ} {t : List ℕ} {from k : ℕ} {fresh
     → fresh .left + fresh .spent < 2 ^ 32 → CutsLeft a q t from k fresh fresh from k 1
 cuts-begun r f s = record { room = r; sum = s; few = omega arith; ends = λ x z. z }
 
-module _ {a : Difference} {q : ℕ} {t : List ℕ} {from k : ℕ} {fresh have : Allowance} {at left i : ℕ} (x : CutsLeft a q t from k fresh have at left i) where
+module _ {a : Difference} {q : ℕ} {t : List ℕ} {from k : ℕ} {fresh have : Allowance} {at left i : ℕ}
+    (x : CutsLeft a q t from k fresh have at left i) where
   -- no cut is left
   pub cuts-ended : left ≤ 0 → (o : Outcome) → (o .allowance ≡ have) × (o .verdict ≡ Covered)
       → Ends q fresh 1 (map (walkBack a) (wholesAt q t from k)) (record { outcome = o; index = i })
