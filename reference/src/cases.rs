@@ -1,6 +1,7 @@
 //! Fixed questions with the answers that docs/FORMAT.md and docs/DECISIONS.md give for them.
 
 use crate::notation::{c, f, h, r, w1};
+use crate::requests;
 
 /// A question, its answer, and the place that settles it.
 pub struct Case {
@@ -9,7 +10,7 @@ pub struct Case {
     pub answer: String,
 }
 
-/// All fixed cases: the readings, then the document's figures and slips.
+/// All fixed cases: the readings, the document's figures and slips, then those of the requests.
 pub fn all() -> Vec<Case> {
     let readings = [
         parts(),
@@ -28,10 +29,10 @@ pub fn all() -> Vec<Case> {
         ceiling(),
     ];
     let figures = [proved(), written_figures(), limits(), sentences(), slips()];
-    readings.into_iter().chain(figures).flatten().collect()
+    readings.into_iter().chain(figures).flatten().chain(requests::all()).collect()
 }
 
-fn case(source: &'static str, question: impl Into<String>, answer: impl Into<String>) -> Case {
+pub fn case(source: &'static str, question: impl Into<String>, answer: impl Into<String>) -> Case {
     Case { source, question: question.into(), answer: answer.into() }
 }
 

@@ -22,6 +22,7 @@ pub mod program;
 pub mod reader;
 pub mod record;
 pub mod region;
+pub mod requests;
 pub mod tidy;
 pub mod views;
 pub mod walk;

@@ -1,4 +1,4 @@
--- How many positions a cube leaves free: one of the two byte tables counts them of each byte (FORMAT 19).
+-- How many positions a cube leaves free: the byte table has the number for each byte (FORMAT 19).
 --   freeCount c    == the number of codes `free` in c
 use Prim.Native.Nat.{ℕ, suc}
 use mathlib.Core.List.{[], _∷_}

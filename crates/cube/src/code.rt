@@ -1,9 +1,19 @@
 // The codes of a cube in its bytes, read and written.
 ghost use mathlib.Core.Path.{_≡_};
+ghost use mathlib.Core.List.{[], _∷_};
+ghost use mathlib.Core.Bool.{not};
 ghost use Prim.Native.Nat.{_<_};
 ghost use lib.ListN.{length, set, replicate};
+ghost use Rattle.model.specs.Cube.{solid};
 ghost use Rattle.format.specs.Bytes.{codeOf, codes};
 ghost use Rattle.cube.specs.Code.{codeAt};
+
+// Whether a place of a byte holds code 0. This is the one test of it, by arithmetic: neither bit of the place is set.
+pub(crate) fn code_zero(b: u8) -> bool
+    ensures { λ r. ⌜ r ≡ not (solid (codes (b ∷ []))) ⌝ }
+{
+    ((b | (b >> 1)) & 0x55) ^ 0x55 != 0
+}
 
 // Leaves every position of a cube free.
 pub fn fill(c: &mut [u8])

@@ -3,9 +3,9 @@ ghost use mathlib.Core.Path.{_≡_};
 ghost use mathlib.Core.List.{[], _∷_};
 ghost use Prim.Native.Nat.{_<_};
 ghost use Rattle.format.specs.Bytes.{codes, allFree, cubeFault, lentFault};
+use super::code::code_zero;
 use super::pair::meets;
 use super::size::cube_len;
-use super::table::code_zero;
 
 // Whether every place of every byte holds code 3.
 fn all_free(c: &[u8]) -> bool
