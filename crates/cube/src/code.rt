@@ -8,7 +8,7 @@ ghost use Rattle.model.specs.Cube.{solid};
 ghost use Rattle.format.specs.Bytes.{codeOf, codes};
 ghost use Rattle.cube.specs.Code.{codeAt};
 
-// Whether a place of a byte holds code 0. This is the one test of it, by arithmetic: neither bit of the place is set.
+// Whether a place of a byte holds code 0: neither of its bits is set. `meets` gathers the same of many bytes at once.
 pub(crate) fn code_zero(b: u8) -> bool
     ensures { λ r. ⌜ r ≡ not (solid (codes (b ∷ []))) ⌝ }
 {

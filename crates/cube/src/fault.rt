@@ -20,7 +20,7 @@ fn all_free(c: &[u8]) -> bool
     bad == 0
 }
 
-// What is wrong with a byte whose first places are w positions and whose others are unused. Most bytes here are all free, and the table is dear.
+// What is wrong with a byte whose first places are w positions and whose others are unused. Most bytes here are all free.
 fn byte_fault(b: u8, w: usize) -> u8
     requires { ⌜ w < 4 ⌝ }
     ensures { λ r. ⌜ r ≡ cubeFault w (b ∷ []) ⌝ }
