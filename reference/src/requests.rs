@@ -1,4 +1,5 @@
-//! Fixed questions that came with the desk's requests, with the answers that docs/DECISIONS.md gives for them.
+//! Fixed questions that came with the desk's requests, with the answers that docs/DECISIONS.md
+//! gives for them.
 
 use crate::cases::{case, Case};
 use crate::notation::{c, r};

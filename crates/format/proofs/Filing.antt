@@ -25,11 +25,13 @@ use Rattle.model.specs.Sized.{All, Good}
 use Rattle.model.proofs.Bools.{or-none}
 use Rattle.format.specs.Limits.{widest, mostCuts, mostDifferences, widthKind}
 use Rattle.format.specs.Bytes.{Bytes}
-use Rattle.format.specs.Records.{countAt, lengthAt, kindAt, nextAt, widthOf, firstAt, widthRows, widthFault, differenceFault, differenceBytes, differencesBytes, widthBytes, fileBytes}
+use Rattle.format.specs.Records.{countAt, lengthAt, kindAt, nextAt, widthOf, firstAt, widthRows, widthFault, differenceFault}
+use Rattle.format.specs.Records.{differenceBytes, differencesBytes, widthBytes, fileBytes}
 use Rattle.format.specs.Files.{Reading, faulty, whole, faultNumber, offsets, before, differencesFrom, readFile, regionOf, regionIn}
 use Rattle.format.specs.Told.{anyLong}
 use Rattle.format.proofs.Reached.{reached, clean}
-use Rattle.format.proofs.Recording.{u16-same, Record, record-of, drop-past, length-written, bytes-written, bytes-append, next-read, difference-read, record-accepted, cuts-count, good-read, bytes-read}
+use Rattle.format.proofs.Recording.{u16-same, Record, record-of, record-accepted, cuts-count, drop-past}
+use Rattle.format.proofs.Recording.{length-written, bytes-written, bytes-append, next-read, difference-read, good-read, bytes-read}
 
 -- one turn
 module _ (w : ℕ) (s : List ℕ) (at n : ℕ) where

@@ -37,7 +37,8 @@ use Rattle.format.specs.Limits.{mostCuts, mostInput}
 use Rattle.format.specs.Bytes.{cubeLen, bits, readHeader, readCube, writeCube}
 use Rattle.format.specs.Records.{countAt, baseAt, nextAt, widthOf, firstAt, widthFault, differenceAt, differenceFault, differenceBytes}
 use Rattle.format.specs.Files.{readFile, faultNumber, faultOffset, offsets, regionIn}
-use Rattle.format.specs.Told.{Told, silent, twoCubes, wide, lentCube, lentRecord, lentFile, lentBits, lentHeader, yesOr, writing, writingRegion, walking}
+use Rattle.format.specs.Told.{Told, silent, twoCubes, wide, lentCube, lentRecord, lentFile, lentBits, lentHeader}
+use Rattle.format.specs.Told.{yesOr, writing, writingRegion, walking}
 
 -- What each operation takes is FORMAT 64; which operand is which, 66.
 
