@@ -198,7 +198,7 @@ fn fields() -> Vec<Case> {
     let free = format!("0 0 0 0 22 {}", r(&"*".repeat(66), &[]));
     vec![
         case("A20", "equal_fields 3 0 1 2 99", "0 0 0 0 10 0800020004FF6F9FDBE7"),
-        case("A21", "prefix 8 0 8 0 00 99", "21 0 0 0 0 -"),
+        case("A21", "prefix 8 0 8 0 00 99", "0 0 0 0 2 FFFF"),
         case("A21", "prefix 8 18446744073709551615 2 1 00 99", "21 0 0 0 0 -"),
         case("A21", "equal_fields 66 0 34 33 9999", "21 0 0 0 0 -"),
         case("A22", "prefix 9 0 9 1 80 99", "11 0 0 0 0 -"),

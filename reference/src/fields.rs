@@ -13,7 +13,7 @@ fn within(w: usize, s: u64, n: u64) -> bool {
 
 /// 21, 11, 22, for a W within its bounds.
 pub fn prefix(w: usize, s: u64, n: u64, m: u64, value: &[u8], room: usize) -> Outcome {
-    if !within(w, s, n) || !(1..=n).contains(&m) {
+    if !within(w, s, n) || m > n {
         return Err(Refusal::plain(21));
     }
     // Within W, these numbers are small.

@@ -258,7 +258,7 @@ fn prefixes() {
     for_each_w(9, 100, |random, w| {
         let n = random.between(1, w);
         let s = random.below(w - n + 1);
-        let m = random.between(1, n);
+        let m = random.between(0, n);
         let field: String = random_header(random, m) + &"0".repeat(n - m);
         let [ws, ss, ns, ms] = [w, s, n, m].map(|number| number as u64);
         let cube = written(calls::prefix(ws, ss, ns, ms, &bytes(&h(&field)), ROOM));

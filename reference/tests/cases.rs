@@ -26,7 +26,7 @@ fn every_source_is_there() {
     // A5d and A35 have no line of their own; A36 is about the question program.
     let readings = (1..=34).map(|i| format!("A{i}"));
     let lettered = ["A5b", "A5c", "A6b", "A6c", "A6d", "A8b", "A13b", "A30b"].map(String::from);
-    let requests = ["B70"].map(String::from);
+    let requests = ["B70", "B1"].map(String::from);
     let figures = (1..=10).map(|i| format!("P{i}"));
     for source in readings.chain(lettered).chain(requests).chain(figures) {
         assert!(sources.contains(&source.as_str()), "{source}");

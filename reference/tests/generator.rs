@@ -28,6 +28,28 @@ fn every_number_of_every_call_is_reached() {
     }
 }
 
+/// The value and the answer of a line that asks for a prefix of length 0.
+fn default_route(line: &str) -> Option<(String, String)> {
+    let words: Vec<&str> = line.split(' ').collect();
+    match words[..] {
+        ["prefix", _, _, _, m, value, _] if m.parse() == Ok(0u64) => {
+            Some((value.to_string(), answer(line.as_bytes())))
+        }
+        _ => None,
+    }
+}
+
+#[test]
+fn prefixes_of_length_0_are_asked() {
+    for seed in [1, 2, 3] {
+        let asked: Vec<_> = lines(seed, LINES).iter().filter_map(|l| default_route(l)).collect();
+        let given = |number: &str| asked.iter().any(|(_, answer)| answer.starts_with(number));
+        assert!(["0 ", "11 ", "21 ", "22 "].into_iter().all(given), "seed {seed}");
+        let refused = |value: &(String, String)| value.0 == "-" && value.1.starts_with("11 ");
+        assert!(asked.iter().any(refused), "seed {seed}: no value at all");
+    }
+}
+
 #[test]
 fn the_lines_stay_small() {
     let lines = lines(4, LINES);

@@ -37,9 +37,6 @@ pub fn prefix(w: usize, s: usize, n: usize, m: usize, value: &[u8], out: &mut [u
     if refusal.number != 0 {
         return refusal;
     }
-    if m == 0 {
-        return Answer::refused(21);
-    }
     if n < m {
         return Answer::refused(21);
     }

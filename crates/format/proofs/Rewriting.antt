@@ -204,7 +204,7 @@ module _ (w s n m : ℕ) (value : List ℕ) (room : ℕ) (e : prefix w s n m val
   unfolding prefix
   prefix-facts =
       let p = passed _ e (omega arith) in
-      (omega arith, rw (length-bits value) (omega arith), p .1 .1 .1 .1 .1 .1 .1 .1)
+      (omega arith, rw (length-bits value) (omega arith), p .1 .1 .1 .1 .1 .1 .1)
 
   pub prefix-written : WrittenCube w (prefixCube w s m (bits value)) (prefix w s n m value room .bytes)
   prefix-written =

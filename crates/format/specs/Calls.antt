@@ -193,10 +193,9 @@ prefix w s n m value room =
     (wide w
     (row (is n 0) (silent (refused 21))
     (row (below w (s + n)) (silent (refused 21))
-    (row (is m 0) (silent (refused 21))
     (row (below n m) (silent (refused 21))
     (lentBits n m value
-    (writing (writeCube (prefixCube w s m (bits value))) room)))))))
+    (writing (writeCube (prefixCube w s m (bits value))) room))))))
 
 -- FORMAT 43, 46, 78, 82 to 87
 unfoldable pub equal-fields : ℕ → ℕ → ℕ → ℕ → ℕ → Told

@@ -57,7 +57,6 @@ pub record Prefixed (w s n m : ℕ) (value : List ℕ) : Type 0 where
   pub narrow : w ≤ widest
   pub field : 1 ≤ n
   pub inside : s + n ≤ w
-  pub fixed : 1 ≤ m
   pub short : m ≤ n
   pub given : Bits n m value
 

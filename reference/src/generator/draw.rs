@@ -160,7 +160,8 @@ fn others(random: &mut Random, name: &str, theme: Theme, region: &Region) -> (Ve
 fn prefix(random: &mut Random, w: usize) -> (Vec<usize>, Header) {
     let n = random.between(1, w);
     let s = random.below(w - n + 1);
-    let m = random.between(1, n);
+    // In a long field the length 0 would come too seldom.
+    let m = if random.one_in(3) { 0 } else { random.between(1, n) };
     let mut value = shapes::header(random, &Cube::all_free(n));
     value.0[m..].fill(b'0');
     (vec![s, n, m], value)

@@ -1,6 +1,7 @@
 -- What is promised of constraints on fields, by `prefix` and `equal_fields`. Beside the lines that the page has of every call:
 --   prefix-means, equal-fields-means    a header is in what is written exactly where its field's first m positions are the value's, and exactly where
 --                            its two fields are the same
+--   prefix-whole             a prefix of length 0 fixes no position: every header is in what is written
 --   prefix-written, equal-fields-written    the bytes written are accepted as a lent cube, and as a single record, and they are the definition's
 --   equal-fields-tidy        the difference that equality writes is tidy as it stands
 use Prim.Native.Nat.{ℕ, _≤_}
@@ -51,7 +52,7 @@ module _ (w s n m : ℕ) (value : List ℕ) where
       → Tells (Prefixed w s n m value × (cubeLen w ≤ room)) (writes (writeCube (prefixCube w s m (bits value)))) (prefix w s n m value room)
   unfolding prefix
   prefix-answered room =
-      by-table 9 _ (omega arith)
+      by-table 8 _ (omega arith)
       (λ passed. let f : Prefixed w s n m value = search arith in (f, omega (arith, prefix-size f)))
       (λ (f, fits). let size = prefix-size f in search arith)
 
@@ -66,6 +67,10 @@ module _ (w s n m : ℕ) (value : List ℕ) where
   pub prefix-written : (room : ℕ) → prefix w s n m value room .answer .number ≡ 0
       → WrittenCube w (prefixCube w s m (bits value)) (prefix w s n m value room .bytes)
   prefix-written = Rewriting.prefix-written w s n m value
+
+pub prefix-whole : (w s n : ℕ) (value : List ℕ) (room : ℕ) → prefix w s n 0 value room .answer .number ≡ 0 → (h : Header) → length h ≡ w
+    → holds (readCube w (prefix w s n 0 value room .bytes)) h ≡ true
+prefix-whole w s n = prefix-means w s n 0
 
 -- EQUAL_FIELDS: the record of an equality of fields, or 21 or 18 (FORMAT 82 to 87)
 pub equal-fields-promise : Promise equal-fields-call.Kinds.ps equal-fields-call.Kinds.r equal-fields-call.Reads.Asked equal-fields-call.Reads.Learnt

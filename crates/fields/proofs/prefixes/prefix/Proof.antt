@@ -19,25 +19,29 @@ use Rattle.fields.proofs.Bounding.{FieldIn, field-refused, field-stands
 use Rattle.fields.proofs.prefixes.prefix.Statement.{statement}
 use Rattle.fields.proofs.prefixes.prefix.Tie as tie
 
-field : (c : tie.Else1) → let x = c .before .before .before .before .before .args in FieldIn (x .w) (x .s) (x .n)
+-- what the tests of the field were made on
+abbrev lent : tie.Else1 → tie.Start
+lent c = c .before .before .before .before .before
+
+field : (c : tie.Else1) → let x = lent c .args in FieldIn (x .w) (x .s) (x .n)
 field c = field-stands _ _ _ _ (c .before .before .field-refusal .ensures) (c .if1 .left)
 
 -- behind the tests of the field and of the value
 module _ (c : tie.After-cube-len) where
-  abbrev bounded : tie.Else3
+  abbrev bounded : tie.Else2
   bounded = c .before .before .before .before
 
   abbrev start : tie.Start
-  start = bounded .before .before .before .before .before .before .before
+  start = lent (bounded .before)
 
   within : let x = start .args in x .s + x .m ≤ x .w
-  within = omega (arith, field (bounded .before .before), bounded .if3 .left)
+  within = omega (arith, field (bounded .before), bounded .if2 .left)
 
   covered : let x = start .args in x .m ≤ length (bits (x .value .now))
   covered =
       let x = start .args in
-      let value = bits-lent (x .n) (x .m) (x .value .now) _ (c .before .before .before .bits-refusal .ensures) (c .before .if4 .left) in
-      rw (length-bits (x .value .now)) (omega (arith, value .0, bounded .if3 .left))
+      let value = bits-lent (x .n) (x .m) (x .value .now) _ (c .before .before .before .bits-refusal .ensures) (c .before .if3 .left) in
+      rw (length-bits (x .value .now)) (omega (arith, value .0, bounded .if2 .left))
 
   size : let x = start .args in length (writeCube (prefixCube (x .w) (x .s) (x .m) (bits (x .value .now)))) ≡ c .cube-len .result
   size = let x = start .args in prefix-size (x .w) (x .s) (x .m) (bits (x .value .now)) within covered ∙ sym (c .cube-len .ensures)
@@ -48,8 +52,8 @@ module _ (c : tie.After-cube-len) where
   unfolding prefix
   goes-on =
       let x = start .args in
-      bits-passed (x .n) (x .m) (x .value .now) _ (c .before .before .before .bits-refusal .ensures) _ (c .before .if4 .left)
-      ∙ skipped 6 _ (omega (arith, field (bounded .before .before), bounded .before .if2 .left, bounded .if3 .left))
+      bits-passed (x .n) (x .m) (x .value .now) _ (c .before .before .before .bits-refusal .ensures) _ (c .before .if3 .left)
+      ∙ skipped 5 _ (omega (arith, field (bounded .before), bounded .if2 .left))
 
 field-refusal-requires : tie.Need-field-refusal-requires
 field-refusal-requires c κs = search needs
@@ -65,33 +69,26 @@ returns-2 : tie.Need-returns-2
 unfolding prefix
 returns-2 c = silent-out (c .refused .ensures) (reached 4 _ (omega (arith, field (c .before .before))))
 
-refused-requires-2 : tie.Need-refused-requires-2
-refused-requires-2 c κs = search needs
-
-returns-3 : tie.Need-returns-3
-unfolding prefix
-returns-3 c = silent-out (c .refused2 .ensures) (reached 5 _ (omega (arith, field (c .before .before .before), c .before .before .if2 .left)))
-
 bits-refusal-requires : tie.Need-bits-refusal-requires
 bits-refusal-requires c κs = search needs
 
-returns-4 : tie.Need-returns-4
+returns-3 : tie.Need-returns-3
 unfolding prefix
-returns-4 c =
+returns-3 c =
     let b = c .before .before .before in
-    let x = b .before .before .before .before .before .before .before .args in
+    let x = lent (b .before) .args in
     silent-out refl
-    (bits-refused (x .n) (x .m) (x .value .now) _ (c .before .before .bits-refusal .ensures) _ (c .if4 .taken)
-    ∙ skipped 6 _ (omega (arith, field (b .before .before), b .before .if2 .left, b .if3 .left)))
+    (bits-refused (x .n) (x .m) (x .value .now) _ (c .before .before .bits-refusal .ensures) _ (c .if3 .taken)
+    ∙ skipped 5 _ (omega (arith, field (b .before), b .if2 .left)))
 
 cube-len-requires : tie.Need-cube-len-requires
 cube-len-requires c κs = search needs
 
-refused-requires-3 : tie.Need-refused-requires-3
-refused-requires-3 c κs = search needs
+refused-requires-2 : tie.Need-refused-requires-2
+refused-requires-2 c κs = search needs
 
-returns-5 : tie.Need-returns-5
-returns-5 c = let d = c .before .before in silent-out (c .refused3 .ensures) (reached 0 _ (rw (size d) (c .before .if5 .taken)) ∙ goes-on d)
+returns-4 : tie.Need-returns-4
+returns-4 c = let d = c .before .before in silent-out (c .refused2 .ensures) (reached 0 _ (rw (size d) (c .before .if4 .taken)) ∙ goes-on d)
 
 sub-put-prefix : tie.Need-sub-put-prefix
 sub-put-prefix c = search needs
@@ -106,10 +103,10 @@ put-prefix-requires : tie.Need-put-prefix-requires
 put-prefix-requires c κs =
     let d = c .before .before in
     let x = start d .args in
-    let l : length (take (d .cube-len .result - 0) (x .out .now)) ≡ d .cube-len .result = simp length-take (omega (arith, c .before .if5 .left)) in (
+    let l : length (take (d .cube-len .result - 0) (x .out .now)) ≡ d .cube-len .result = simp length-take (omega (arith, c .before .if4 .left)) in (
       omega (arith, l, d .cube-len .ensures, within d),
       omega (arith, length-bits (x .value .now), covered d),
-      omega (arith, within d, field (bounded d .before .before)),
+      omega (arith, within d, field (bounded d .before)),
     )
 
 wrote-requires : tie.Need-wrote-requires
@@ -118,15 +115,15 @@ wrote-requires c κs = search needs
 same-length : tie.Need-same-length
 same-length c = search needs
 
-returns-6 : tie.Need-returns-6
-returns-6 c =
+returns-5 : tie.Need-returns-5
+returns-5 c =
     let p = c .before .before .before in
     let d = p .before .before .before in
     let x = start d .args in
     let n = d .cube-len .result - 0 in
     let ys = p .put-prefix .last .0 in
     let k = p .put-prefix .kept .0 in
-    let room = p .before .before .if5 .left in
+    let room = p .before .before .if4 .left in
     let l : length ys ≡ cubeLen (x .w) = k ∙ simp length-take (omega (arith, room, d .cube-len .ensures)) in
     let b = lent-bytes (x .out .now) ys 0 n (λ i. c .before .slice-known2 .given i .fits) in
     let same = prefix-bytes (x .w) (x .s) (x .m) (bits (x .value .now)) ys b l (within d) (covered d) (rw (← k) at (p .put-prefix .ensures)) in
@@ -142,17 +139,15 @@ prefix-spec =
     returns
     refused-requires
     returns-2
-    refused-requires-2
-    returns-3
     bits-refusal-requires
-    returns-4
+    returns-3
     cube-len-requires
-    refused-requires-3
-    returns-5
+    refused-requires-2
+    returns-4
     sub-put-prefix
     part-put-prefix-start
     part-put-prefix-end
     put-prefix-requires
     wrote-requires
     same-length
-    returns-6)
+    returns-5)
