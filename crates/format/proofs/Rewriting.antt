@@ -22,7 +22,8 @@ use Rattle.model.specs.Algebra.{intersection, intersections, subtraction, subtr
 use Rattle.model.specs.Fields.{sameBits, prefixCube, equalFields}
 use Rattle.model.proofs.Cubes.{in-meet}
 use Rattle.model.proofs.Tidying.{in-tidyRegion, tidy-tidy, tidyRegion-keeps, sized-meet}
-use Rattle.model.proofs.Setting.{in-intersection, in-intersections, in-subtraction, in-subtractions, good-intersection, good-intersections, good-subtraction, good-subtractions}
+use Rattle.model.proofs.Setting.{in-intersection, in-intersections, in-subtraction, in-subtractions}
+use Rattle.model.proofs.Setting.{good-intersection, good-intersections, good-subtraction, good-subtractions}
 use Rattle.model.proofs.Field.{in-prefix, prefix-length, prefix-solid, in-equal, good-equal}
 use Rattle.answer.specs.Answer.{wrote}
 use Rattle.format.specs.Rows.{Rows, outcome}
