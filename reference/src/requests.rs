@@ -6,7 +6,7 @@ use crate::notation::{c, r};
 
 pub fn all() -> Vec<Case> {
     let less_memory = [code_zero(), every_byte(), every_place()];
-    let default_route = [whole_field(), every_field(), zero_bits(), every_bit(), every_length()];
+    let default_route = [whole_field(), every_field(), addresses(), every_bit(), every_length()];
     less_memory.into_iter().chain(default_route).flatten().collect()
 }
 
@@ -70,7 +70,7 @@ fn whole_field() -> Vec<Case> {
     ]
 }
 
-/// Every field of the widths 1 to 9, and the longest of the greatest ones.
+/// Every field of the widths 1 to 9, and short and long ones at the end of the greatest.
 fn every_field() -> Vec<Case> {
     let asked = |w: usize, s: usize, n: usize| {
         let value = "00".repeat(n.div_ceil(8));
@@ -84,8 +84,8 @@ fn every_field() -> Vec<Case> {
     narrow.chain(wide).collect()
 }
 
-/// The default route among all addresses of 32 positions: the value is written out, and it is 0.
-fn zero_bits() -> Vec<Case> {
+/// 0.0.0.0/0 with its value and without, what it may be mistaken for, and the addresses in it.
+fn addresses() -> Vec<Case> {
     let everything = r(&"*".repeat(32), &[]);
     vec![
         case("B1", "prefix 32 0 32 0 00000000 8", "0 0 0 0 8 FFFFFFFFFFFFFFFF"),
