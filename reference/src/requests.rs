@@ -1,13 +1,16 @@
 //! Fixed questions that came with the desk's requests, with the answers that docs/DECISIONS.md
 //! gives for them.
 
+mod ceilings;
+
 use crate::cases::{case, Case};
 use crate::notation::{c, r};
 
 pub fn all() -> Vec<Case> {
     let less_memory = [code_zero(), every_byte(), every_place()];
     let default_route = [whole_field(), every_field(), addresses(), every_bit(), every_length()];
-    less_memory.into_iter().chain(default_route).flatten().collect()
+    let earlier = less_memory.into_iter().chain(default_route).flatten();
+    earlier.chain(ceilings::all()).collect()
 }
 
 /// Code 0 at a position is 13, in an unused place 14, and 13 comes first.

@@ -1,5 +1,7 @@
 //! The walk over pieces, its allowance and its ceiling.
 
+use std::collections::BTreeSet;
+
 use crate::answer::Answer;
 use crate::cube::{opposite, Cube};
 use crate::difference::Difference;
@@ -63,13 +65,30 @@ fn visit(piece: &Cube, cuts: &[Cube], allowance: &mut Allowance) -> Result<(), S
     Ok(())
 }
 
+/// The smaller of the two bounds.
+pub fn ceiling(difference: &Difference) -> u32 {
+    cut_by_cut(difference).min(by_positions(difference))
+}
+
+fn meeting(difference: &Difference) -> impl DoubleEndedIterator<Item = &Cube> {
+    difference.cuts.iter().filter(|cut| cut.meets(&difference.base))
+}
+
 /// 1 + f1 (1 + f2 (... (1 + fk times 1))) over the cuts that meet the base, in their order; f is
 /// the number of positions that the cut fixes and the base leaves free.
-pub fn ceiling(difference: &Difference) -> u32 {
-    let base = &difference.base;
-    let meeting = difference.cuts.iter().filter(|cut| cut.meets(base));
-    meeting.rev().fold(1, |inner: u32, cut| {
-        let f = base.open_positions(cut).count() as u32;
+pub fn cut_by_cut(difference: &Difference) -> u32 {
+    meeting(difference).rev().fold(1, |inner: u32, cut| {
+        let f = difference.base.open_positions(cut).count() as u32;
         f.saturating_mul(inner).saturating_add(1)
     })
+}
+
+/// 1 + k times 2 to the power s, where k cuts meet the base and s is the number of positions that
+/// the base leaves free and at least one of these cuts fixes.
+pub fn by_positions(difference: &Difference) -> u32 {
+    let opened = |cut| difference.base.open_positions(cut);
+    let positions: BTreeSet<usize> = meeting(difference).flat_map(opened).collect();
+    let k = meeting(difference).count() as u32;
+    let s = positions.len() as u32;
+    2u32.saturating_pow(s).saturating_mul(k).saturating_add(1)
 }

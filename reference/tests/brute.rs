@@ -182,6 +182,20 @@ fn check_walk(shown: &[String], ask: impl Fn(u32) -> Outcome) -> u32 {
     full.count
 }
 
+/// The smaller of the two bounds, from the drawing alone.
+fn smaller_bound((base, cuts): &Drawing) -> u64 {
+    let free = |drawing: &str, p: usize| drawing.as_bytes()[p] == b'*';
+    let opens = |cut: &str, p: usize| free(base, p) && !free(cut, p);
+    let alike = |cut: &str, p: usize| free(base, p) || free(cut, p) || base[p..=p] == cut[p..=p];
+    let meeting: Vec<&String> =
+        cuts.iter().filter(|cut| (0..base.len()).all(|p| alike(cut, p))).collect();
+    let f = |cut: &str| (0..base.len()).filter(|&p| opens(cut, p)).count() as u64;
+    let first = meeting.iter().rev().fold(1, |inner, cut| 1 + f(cut) * inner);
+    let matters = |&p: &usize| meeting.iter().any(|cut| opens(cut, p));
+    let s = (0..base.len()).filter(matters).count();
+    first.min(1 + meeting.len() as u64 * (1 << s))
+}
+
 #[test]
 fn emptiness_of_differences_and_the_ceiling() {
     for_each_w(6, 300, |random, w| {
@@ -192,6 +206,7 @@ fn emptiness_of_differences_and_the_ceiling() {
         let count = check_walk(&shown, ask);
         let ceiling = calls::ceiling(w as u64, &lent).unwrap();
         assert!((1..=ceiling.count).contains(&count));
+        assert_eq!(u64::from(ceiling.count), smaller_bound(&difference));
     });
 }
 

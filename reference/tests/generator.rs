@@ -4,6 +4,8 @@ use reference::agree::agree;
 use reference::coverage::Coverage;
 use reference::desk::{answer, UNREADABLE};
 use reference::generator::Lines;
+use reference::record::read_single;
+use reference::{hex, walk};
 
 const LINES: usize = 3_000;
 
@@ -48,6 +50,30 @@ fn prefixes_of_length_0_are_asked() {
         assert!(["0 ", "11 ", "21 ", "22 "].into_iter().all(given), "seed {seed}");
         let empty = asked.iter().filter(|(value, _)| value == "-");
         assert!(empty.map(|(_, answer)| answer).any(|answer| answer.starts_with("11 ")));
+    }
+}
+
+/// The two bounds of a line that asks for the ceiling and gets it, and what it gets.
+fn bounds(line: &str) -> Option<[u32; 3]> {
+    let words: Vec<&str> = line.split(' ').collect();
+    let ["ceiling", w, lent] = words[..] else { return None };
+    let difference = read_single(w.parse().ok()?, &hex::read(lent.as_bytes())?).ok()?;
+    let answer = answer(line.as_bytes());
+    let count = answer.strip_prefix("0 0 0 ")?.split(' ').next()?.parse().ok()?;
+    Some([walk::cut_by_cut(&difference), walk::by_positions(&difference), count])
+}
+
+#[test]
+fn ceilings_of_either_bound_are_asked() {
+    for seed in [1, 2, 3] {
+        let asked: Vec<_> = lines(seed, LINES).iter().filter_map(|line| bounds(line)).collect();
+        let seen = |what: fn(&[u32; 3]) -> bool| asked.iter().any(what);
+        assert!(seen(|&[first, second, count]| count == first && first < second));
+        assert!(seen(|&[first, second, count]| count == second && second < first));
+        assert!(seen(|&[first, second, _]| first == u32::MAX && second == u32::MAX));
+        assert!(seen(|&[first, second, count]| [first, second, count] == [1, 1, 1]));
+        assert!(seen(|&[_, second, count]| count == second && second > 1 << 31));
+        assert!(seen(|&[first, second, _]| first > 1 << 30 && second == u32::MAX));
     }
 }
 

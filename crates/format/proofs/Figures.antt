@@ -8,7 +8,7 @@ use Rattle.model.specs.Tidy.{tidy, tidyFrom}
 use Rattle.model.specs.Algebra.{intersection, restored}
 use Rattle.model.specs.Fields.{unequal, equalFields}
 use Rattle.model.specs.Walk.{visit, decide}
-use Rattle.model.specs.Ceiling.{frees, ceilingFrom}
+use Rattle.model.specs.Ceiling.{frees, ceilingFrom, meeting, mark, matters, marks}
 use Rattle.answer.specs.Answer.{fault, counted, showing, wrote}
 use Rattle.format.specs.Rows.{passes, outcome}
 use Rattle.format.specs.Bytes.{readHeader, headerBytes, readCube, cubeBytes, writeCube, cubeFault, lentFault}
@@ -31,9 +31,9 @@ pub figures :
     × (ceiling-of 2 (6 ∷ 0 ∷ 2 ∷ 0 ∷ 2 ∷ 0xFF ∷ 0xBF ∷ 0x7F ∷ []) ≡ silent (counted 0 3))
     -- P6: allowance 1 gives undecided, count 1
     × (diff-empty 2 (6 ∷ 0 ∷ 2 ∷ 0 ∷ 2 ∷ 0xFF ∷ 0xBF ∷ 0x7F ∷ []) 1 1 ≡ silent (counted 3 1))
-    -- P7: W 2, base **, cuts 00, 01, 10: member 11, count 3, ceiling 15
+    -- P7: W 2, base **, cuts 00, 01, 10: member 11, count 3, ceiling 13
     × (diff-empty 2 (7 ∷ 0 ∷ 2 ∷ 0 ∷ 3 ∷ 0xFF ∷ 0x5F ∷ 0x6F ∷ 0x9F ∷ []) 9 1 ≡ record { answer = showing 3 1; bytes = 0xC0 ∷ [] })
-    × (ceiling-of 2 (7 ∷ 0 ∷ 2 ∷ 0 ∷ 3 ∷ 0xFF ∷ 0x5F ∷ 0x6F ∷ 0x9F ∷ []) ≡ silent (counted 0 15))
+    × (ceiling-of 2 (7 ∷ 0 ∷ 2 ∷ 0 ∷ 3 ∷ 0xFF ∷ 0x5F ∷ 0x6F ∷ 0x9F ∷ []) ≡ silent (counted 0 13))
     -- P8: W 2, ** less (1* less 11)
     × (diff-less 2 (4 ∷ 0 ∷ 2 ∷ 0 ∷ 0 ∷ 0xFF ∷ []) (5 ∷ 0 ∷ 2 ∷ 0 ∷ 1 ∷ 0xBF ∷ 0xAF ∷ []) 19
     ≡ record {
@@ -44,5 +44,5 @@ pub figures :
     × (equal-fields 2 0 1 1 8 ≡ record { answer = wrote 8; bytes = 6 ∷ 0 ∷ 2 ∷ 0 ∷ 2 ∷ 0xFF ∷ 0x6F ∷ 0x9F ∷ [] })
     -- P10: W 2, 1* less 0* tidies to 1* with no cut
     × (tidy (less (v1 ∷ free ∷ []) ((v0 ∷ free ∷ []) ∷ [])) ≡ less (v1 ∷ free ∷ []) [] ∷ [])
-unfolding outcome passes readHeader headerBytes readCube cubeBytes cubeFault lentFault countAt frontLen baseAt cubeAt cubesAt cubesFault widthFault differenceFault frontBytes differenceBytes fileBytes tidyFrom intersection restored unequal equalFields visit decide frees ceilingFrom cube-in diff-less diff-empty ceiling-of equal-fields
+unfolding outcome passes readHeader headerBytes readCube cubeBytes cubeFault lentFault countAt frontLen baseAt cubeAt cubesAt cubesFault widthFault differenceFault frontBytes differenceBytes fileBytes tidyFrom intersection restored unequal equalFields visit decide frees ceilingFrom meeting mark matters marks cube-in diff-less diff-empty ceiling-of equal-fields
 figures = (refl, refl, refl, refl, refl, refl, refl, refl, refl, refl, refl, refl, refl)

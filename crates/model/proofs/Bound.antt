@@ -1,10 +1,10 @@
--- The ceiling on the pieces of a walk.
+-- The first bound on the pieces of a walk, cut by cut, and the ceiling.
 --   pieces-at-most-ceiling   the walk visits no more pieces than the ceiling
 --   capped-at-most           a capped number is at most mostPieces and at most the number
 --   capped-above             what is at most both is at most the capped number
 --   capped-same              a number that is at most mostPieces stays
 use Prim.Native.Nat.{ℕ, _+_, _*_, _≤_}
-use native.Mathlib.Nat.{suc-mul, one-mul, mul-le-mul-right, le-refl}
+use native.Mathlib.Nat.{suc-mul, one-mul, mul-le-mul-right, le-refl, le-min}
 use native.Mathlib.Omega.{arith}
 use mathlib.Core.Path.{_≡_, refl}
 use mathlib.Core.List.{List, [], _∷_, map}
@@ -19,6 +19,7 @@ use Rattle.model.specs.Walk.{opens, other, children, Found, inTurn, visi
 use Rattle.model.specs.Ceiling.{frees, ceilingFrom, ceiling, mostPieces, capped}
 use Rattle.model.proofs.Bools.{and-left, and-right}
 use Rattle.model.proofs.Turns.{visit-by, next-at-most}
+use Rattle.model.proofs.Spread.{pieces-at-most-over}
 use Rattle.model.proofs.Parts.{Part, done, keep, fix, part-self, part-trans, wider-shares, children-part}
 
 -- walks one after another, each of at most so many pieces
@@ -101,7 +102,7 @@ part-at-most b =
     passed c cs p s m ih false n = ih
 
 pub pieces-at-most-ceiling : (d : Difference) → walk d .pieces ≤ ceiling d
-pieces-at-most-ceiling d = part-at-most (d .base) (d .cuts) (d .base) (part-self (d .base))
+pieces-at-most-ceiling d = le-min (part-at-most (d .base) (d .cuts) (d .base) (part-self (d .base))) (pieces-at-most-over d)
 
 -- the cap
 pub capped-at-most : (n : ℕ) → (capped n ≤ mostPieces) × (capped n ≤ n)

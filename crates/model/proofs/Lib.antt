@@ -13,6 +13,9 @@ pub mod Holding
 pub mod Stopping
 pub mod Walking
 pub mod Including
+pub mod Ceilings
+pub mod Spread
 pub mod Bound
+pub mod PaddedCeiling
 pub mod Allowed
 pub mod Alike

@@ -1,10 +1,11 @@
 -- Cubes with unused places behind their positions: as free positions they change nothing.
 --   Lengths w cs        every cube of cs has w positions
+--   uneven              no list is both empty and longer
 --   sized-lengths       cubes of w positions have them
 --   meet-pad, solid-pad, shares-pad, same-pad, within-pad, holds-pad, frees-pad    each test and operation on cubes
 --   children-pad, next-pad, in-turn-pad, visit-pad    the walk
 --   tidy-pad            tidying
---   ceiling-pad         the ceiling
+--   from-pad            the ceiling's first bound
 use Prim.Native.Nat.{ℕ, zero, suc, _+_}
 use native.Mathlib.Omega.{arith}
 use mathlib.Core.Path.{_≡_, refl, sym, ap, ap₂, _∙_}
@@ -30,7 +31,7 @@ pub sized-lengths : (w : ℕ) (cs : List Cube) → All (Sized w) cs → Lengths 
 sized-lengths w [] l = tt
 sized-lengths w (c ∷ cs) l = (l .0 .wide, sized-lengths w cs (l .1))
 
-uneven : {A : Type 0} (n : ℕ) → 0 ≡ suc n → A
+pub uneven : {A : Type 0} (n : ℕ) → 0 ≡ suc n → A
 uneven n e = absurd (omega arith)
 
 -- cubes
@@ -112,7 +113,7 @@ visit-pad u w =
     (in-turn-pad u (λ q. length q ≡ w) (pad u) (visit cs) (visit (map (pad u) cs)) (λ q h. ih q (l .1) h) (children p c) (rw e at (children-length p c)))))
     (λ c cs p m ih l e. visit-passed (pad u c) (map (pad u) cs) (pad u p) (shares-pad u p c (e ∙ sym (l .0)) ∙ m) ∙ ih (l .1) e)
 
--- the ceiling
+-- the ceiling's first bound
 free-frees : (u : ℕ) → frees (replicate u free) (replicate u free) ≡ 0
 unfolding frees
 free-frees zero = refl
@@ -125,10 +126,10 @@ frees-pad u [] (y ∷ c) e = uneven (length c) e
 frees-pad u (x ∷ b) [] e = uneven (length b) (sym e)
 frees-pad u (x ∷ b) (y ∷ c) e = ap (λ (n : ℕ). cond (opens x y) 1 0 + n) (frees-pad u b c (omega arith))
 
-pub ceiling-pad : (u w : ℕ) (b : Cube) (cs : List Cube) → length b ≡ w → Lengths w cs → ceilingFrom (pad u b) (map (pad u) cs) ≡ ceilingFrom b cs
+pub from-pad : (u w : ℕ) (b : Cube) (cs : List Cube) → length b ≡ w → Lengths w cs → ceilingFrom (pad u b) (map (pad u) cs) ≡ ceilingFrom b cs
 unfolding ceilingFrom
-ceiling-pad u w b [] e l = refl
-ceiling-pad u w b (c ∷ cs) e l = rw (shares-pad u b c (e ∙ sym (l .0)), frees-pad u b c (e ∙ sym (l .0)), ceiling-pad u w b cs e (l .1))
+from-pad u w b [] e l = refl
+from-pad u w b (c ∷ cs) e l = rw (shares-pad u b c (e ∙ sym (l .0)), frees-pad u b c (e ∙ sym (l .0)), from-pad u w b cs e (l .1))
 
 -- tidying
 among-pad : (u w : ℕ) (c : Cube) (ks : List Cube) → length c ≡ w → Lengths w ks → among (pad u c) (map (pad u) ks) ≡ among c ks

@@ -66,9 +66,11 @@ pub use Rattle.model.proofs.Including.{inclusion-nothing, inclusion-survivor}
 pub use Rattle.model.proofs.Holding.{held-in, held-first}
 pub use Rattle.model.proofs.Including.{less-in-turn}
 pub use Rattle.model.proofs.Stopping.{region-in-turn, stopped-member, stopped-undecided, stopped-empty}
--- how many pieces there are, and what an allowance makes of them.
+-- how many pieces there are, at most 1 + k * 2^s of every difference; what counts for the ceiling (FORMAT 117), and what an allowance makes of them.
 pub use Rattle.model.proofs.Walking.{walk-positive}
+pub use Rattle.model.proofs.Spread.{pieces-at-most-over}
 pub use Rattle.model.proofs.Bound.{pieces-at-most-ceiling}
+pub use Rattle.model.proofs.Ceilings.{ceiling-missed, ceiling-at-most}
 pub use Rattle.model.proofs.Allowed.{decided-when, undecided-when}
 --
 -- THE FIGURES. P1 to P10, in one list under one theorem (FORMAT 127); and the trainees' slips 1, 2 and 5, each as the

@@ -15,7 +15,8 @@ use Rattle.model.specs.Walk.{piece, Found, inTurn, walk, stop, Decision, undeci
 use Rattle.model.specs.Padding.{padFound}
 use Rattle.model.proofs.Allowed.{decided-when, undecided-when, decide-by}
 use Rattle.model.specs.Ceiling.{ceiling}
-use Rattle.model.proofs.Padding.{sized-lengths, ceiling-pad}
+use Rattle.model.proofs.Padding.{sized-lengths}
+use Rattle.model.proofs.PaddedCeiling.{ceiling-pad}
 use Rattle.model.proofs.PaddedOperations.{walk-padded, turn-padded, stop-padded}
 use Rattle.format.specs.Bytes.{cubeLen, codes, unused}
 use Rattle.format.specs.Records.{differenceAt}
@@ -42,7 +43,7 @@ module _ {alone : Bool} {w n : ℕ} {s : List ℕ} {at : ℕ} (r : Record alone 
   record-ceiling =
       let d = differenceAt w s at in
       let g = good-read r in
-      ap ceiling (whole-record r i) ∙ ceiling-pad (unused w) w (d .base) (d .cuts) (g .base .wide) (sized-lengths w (d .cuts) (g .cuts))
+      ap ceiling (whole-record r i) ∙ ceiling-pad (unused w) w (d .base) (g .base .wide) (d .cuts) (sized-lengths w (d .cuts) (g .cuts))
 
 -- the first w positions of each cube
 abbrev front : ℕ → Decision → Decision

@@ -2,3 +2,4 @@
 pub mod Lent
 pub mod Ending
 pub mod Tell
+pub mod Tally

@@ -4,6 +4,7 @@ mod empty;
 mod inclusion;
 mod record;
 mod stop;
+mod tally;
 mod told;
 
 pub use ceilings::ceiling;

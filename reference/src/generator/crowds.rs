@@ -4,7 +4,7 @@ use std::ops::Range;
 
 use super::random::Random;
 use super::shapes;
-use crate::cube::Cube;
+use crate::cube::{Cube, FREE};
 use crate::difference::Difference;
 
 /// The positions that tell the cuts of a crowd apart.
@@ -30,7 +30,7 @@ pub fn pair(random: &mut Random, name: &str, w: usize) -> [Difference; 2] {
     match name {
         "diff_less" | "region_less" | "diff_in" => to_subtract(random, w),
         "diff_intersect" | "region_intersect" => to_intersect(random, w),
-        "ceiling" if random.one_in(2) => [doubling(random, w), shapes::difference(random, w)],
+        "ceiling" => [bounded(random, w), shapes::difference(random, w)],
         _ => [single(random, w), shapes::difference(random, w)],
     }
 }
@@ -45,12 +45,56 @@ fn single(random: &mut Random, w: usize) -> Difference {
     free_less(w, from..from + count)
 }
 
-/// A ceiling about the greatest number: with two positions fixed by each, k cuts give it 1 less
-/// than 2 to the power k + 1.
+/// Many cuts of which either bound may be the smaller, where W allows about the greatest number.
+fn bounded(random: &mut Random, w: usize) -> Difference {
+    match random.below(4) {
+        0 => single(random, w),
+        1 if w >= 2 * 33 => doubling(random, w),
+        2 if w >= 31 => repeating(random, w),
+        _ => scattered(random, w),
+    }
+}
+
+/// The first bound about the greatest number: with two positions fixed by each and none by two,
+/// k cuts give it 1 less than 2 to the power k + 1.
 fn doubling(random: &mut Random, w: usize) -> Difference {
-    let base = Cube::all_free(w);
     let count = random.between(30, 33);
-    let cuts = (0..count).map(|_| shapes::narrowed(random, &base, 2)).collect();
+    let start = random.below(w - 2 * count + 1);
+    let cut = |i: usize| {
+        let mut cut = Cube::all_free(w);
+        for p in [start + 2 * i, start + 2 * i + 1] {
+            cut.0[p] = random.pick(b"01");
+        }
+        cut
+    };
+    Difference { base: Cube::all_free(w), cuts: (0..count).map(cut).collect() }
+}
+
+/// The second bound about the greatest number: the same s positions fixed by each, k cuts give it
+/// 1 + k times 2 to the power s.
+fn repeating(random: &mut Random, w: usize) -> Difference {
+    let base = Cube::all_free(w);
+    let s = random.between(26, 30);
+    let full = 1 << (32 - s);
+    let count = random.pick(&[full - 1, full, 64]);
+    let first = shapes::narrowed(random, &base, s);
+    let cut = |_| {
+        let other = |&value: &u8| if value == FREE { FREE } else { random.pick(b"01") };
+        Cube(first.0.iter().map(other).collect())
+    };
+    Difference { base, cuts: (0..count).map(cut).collect() }
+}
+
+/// Two positions fixed by each of about 32 cuts, some of which miss the base.
+fn scattered(random: &mut Random, w: usize) -> Difference {
+    let base = shapes::narrowed(random, &Cube::all_free(w), 2);
+    let count = random.between(30, 33);
+    let from = [Cube::all_free(w), base.clone()];
+    let cut = |_| {
+        let from = &from[random.below(2)];
+        shapes::narrowed(random, from, 2)
+    };
+    let cuts = (0..count).map(cut).collect();
     Difference { base, cuts }
 }
 

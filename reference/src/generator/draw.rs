@@ -81,6 +81,7 @@ fn fitting_w(random: &mut Random, name: &str, theme: Theme) -> usize {
         Theme::Deep => random.pick(&[12, 16, 24, 31, 32, 33, 99]),
         Theme::Wide => random.pick(&[317, 318, 319, 320, 320]),
         Theme::Cuts if name == "equal_fields" => random.pick(&[40, 64, 66, 99]),
+        Theme::Cuts if name == "ceiling" => random.pick(&[8, 9, 12, 31, 33, 66, 70]),
         Theme::Cuts if random.one_in(24) => 320,
         Theme::Cuts => crowds::LEAST_W + random.below(5),
         Theme::Differences => random.between(2, 4),

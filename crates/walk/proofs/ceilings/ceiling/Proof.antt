@@ -66,7 +66,7 @@ bound-requires c κs =
     let r = stands (c .before .before) in
     let n = one-lent (x .w) (x .s .now) _ (one-refusal .ensures) (c .before .before .before .if1 .left) .narrow in
     let h : c .before .before .front-at .result .base + q .result ≤ length (x .s .now) = omega (arith, r, q .ensures) in
-    rw (← part-length (q .result) (x .s .now) (c .before .before .front-at .result .base) h, q .ensures) (omega arith, omega (arith, r .within))
+    rw (← part-length (q .result) (x .s .now) (c .before .before .front-at .result .base) h, q .ensures) (omega arith, r .few, omega (arith, r .within))
 
 counted-requires : tie.Need-counted-requires
 counted-requires c κs = search needs

@@ -1,23 +1,21 @@
--- `walk::ceilings::opened_by` meets its contract. The loop's invariant: what is counted and what is still to count make the whole.
+-- `walk::tally::opened_by` meets its contract. The loop's invariant: what is counted and what is still to count make the whole.
 use Prim.Native.Nat.{_+_, _-_, _*_, _≤_, _<_}
 use native.Mathlib.Omega.{arith}
 use mathlib.Core.Path.{_≡_}
-use mathlib.Core.Bool.{true}
 use lib.ListN.{length, drop}
 use borrow.Author.Needs.{needs}
-use Rattle.model.specs.Cube.{meet, shares}
+use Rattle.model.specs.Cube.{meet}
 use Rattle.format.specs.Bytes.{codes}
 use Rattle.cube.specs.Count.{freeCount}
-use Rattle.walk.proofs.Frees.{count-turn, met-turn, frees-fewer, frees-left}
-use Rattle.walk.proofs.ceilings.opened_by.Statement.{statement}
-use Rattle.walk.proofs.ceilings.opened_by.Tie as tie
+use Rattle.walk.proofs.Frees.{count-turn, met-turn, lost-fewer, lost-left}
+use Rattle.walk.proofs.tally.opened_by.Statement.{statement}
+use Rattle.walk.proofs.tally.opened_by.Tie as tie
 
 abbrev Inv-loop : tie.InvT-loop
 Inv-loop base cut all₀ met₀ i₀ all met i =
     (i ≤ length base) × (length base ≡ length cut) × (length base ≤ 80) × (all ≤ 4 * i) × (met ≤ 4 * i)
     × (all + freeCount (codes (drop i base)) ≡ freeCount (codes base))
     × (met + freeCount (meet (codes (drop i base)) (codes (drop i cut))) ≡ freeCount (meet (codes base) (codes cut)))
-    × (shares (codes base) (codes cut) ≡ true)
 
 abbrev μ-loop : tie.MeasureT-loop
 μ-loop base cut all₀ met₀ i₀ all met i = length base - i
@@ -58,6 +56,7 @@ loop-again c =
     let l = c .before .before .before .before .before .before .loop in
     let a = c .before .before .before .places in
     let m = c .places2 in
+    let t = freeCount (meet (codes (x .base .now)) (codes (x .cut .now))) in
     let hb : l .i < length (x .base .now) = search needs in
     let hc : l .i < length (x .cut .now) = omega (arith, l .inv .1) in (
       search needs,
@@ -66,21 +65,20 @@ loop-again c =
       omega (arith, a .ensures .1, l .inv .3),
       omega (arith, m .ensures .1, l .inv .4),
       count-turn (x .base .now) (l .i) (l .all) (a .result) (freeCount (codes (x .base .now))) hb (a .ensures .0) (l .inv .5),
-      met-turn (x .base .now) (l .i) (l .met) (m .result) (freeCount (meet (codes (x .base .now)) (codes (x .cut .now)))) hb (x .cut .now) hc (m .ensures .0) (l .inv .6),
-      l .inv .7,
+      met-turn (x .base .now) (l .i) (l .met) (m .result) t hb (x .cut .now) hc (m .ensures .0) (l .inv .6),
     )
 
 sub-result : tie.Need-sub-result Inv-loop μ-loop
 sub-result c =
     let x = c .before .before .before .before .args in
     let l = c .before .loop in
-    frees-fewer (x .base .now) (x .cut .now) (l .i) (l .all) (l .met) (search needs) (omega arith) (l .inv .7) (l .inv .5) (l .inv .6)
+    lost-fewer (x .base .now) (x .cut .now) (l .i) (l .all) (l .met) (l .inv .1) (search needs) (l .inv .5) (l .inv .6)
 
 returns : tie.Need-returns Inv-loop μ-loop
 returns c =
     let x = c .before .before .before .before .args in
     let l = c .before .loop in (
-      frees-left (x .base .now) (x .cut .now) (l .i) (l .all) (l .met) (search needs) (omega arith) (l .inv .7) (l .inv .5) (l .inv .6),
+      lost-left (x .base .now) (x .cut .now) (l .i) (l .all) (l .met) (l .inv .1) (search needs) (l .inv .5) (l .inv .6),
       omega (arith, l .inv .3, l .inv .0, l .inv .2),
     )
 

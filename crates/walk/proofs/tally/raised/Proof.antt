@@ -1,14 +1,14 @@
--- `walk::ceilings::raised` meets its contract.
+-- `walk::tally::raised` meets its contract.
 use Prim.Native.Nat.{_+_, _*_, _≤_}
 use native.Mathlib.Nat.{mul-le-mul}
 use native.Mathlib.Omega.{arith}
 use borrow.Author.Tests.{le-leb, lt-leb}
 use borrow.Author.Needs.{needs}
-use Rattle.walk.proofs.ceilings.raised.Statement.{statement}
-use Rattle.walk.proofs.ceilings.raised.Tie as tie
+use Rattle.walk.proofs.tally.raised.Statement.{statement}
+use Rattle.walk.proofs.tally.raised.Tie as tie
 
-most : (c : tie.Start) → c .args .f * c .args .n ≤ 320 * 4294967295
-most c = mul-le-mul {n₂ = 320} {m₂ = 4294967295} (omega arith) (omega arith)
+most : (c : tie.Start) → c .args .f * c .args .n ≤ 4294967295 * 4294967295
+most c = mul-le-mul {n₂ = 4294967295} {m₂ = 4294967295} (omega arith) (omega arith)
 
 mul-x : tie.Need-mul-x
 mul-x c = record { fits = omega (arith, most c) }

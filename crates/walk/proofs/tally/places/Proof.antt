@@ -1,11 +1,11 @@
--- `walk::ceilings::places` meets its contract.
+-- `walk::tally::places` meets its contract.
 use native.Mathlib.Omega.{arith}
 use mathlib.Core.List.{[], _∷_}
 use borrow.Author.Needs.{needs}
 use Rattle.format.specs.Bytes.{codes}
 use Rattle.walk.proofs.Frees.{count-most}
-use Rattle.walk.proofs.ceilings.places.Statement.{statement}
-use Rattle.walk.proofs.ceilings.places.Tie as tie
+use Rattle.walk.proofs.tally.places.Statement.{statement}
+use Rattle.walk.proofs.tally.places.Tie as tie
 
 free-places-requires : tie.Need-free-places-requires
 free-places-requires c κs = search needs
