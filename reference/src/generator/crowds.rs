@@ -48,9 +48,9 @@ fn single(random: &mut Random, w: usize) -> Difference {
 /// Many cuts of which either bound may be the smaller, where W allows about the greatest number.
 fn bounded(random: &mut Random, w: usize) -> Difference {
     match random.below(4) {
+        0 | 1 if w >= 2 * 32 => doubling(random, w),
+        0..=2 if w >= 30 => repeating(random, w),
         0 => single(random, w),
-        1 if w >= 2 * 33 => doubling(random, w),
-        2 if w >= 31 => repeating(random, w),
         _ => scattered(random, w),
     }
 }
@@ -58,7 +58,7 @@ fn bounded(random: &mut Random, w: usize) -> Difference {
 /// The first bound about the greatest number: with two positions fixed by each and none by two,
 /// k cuts give it 1 less than 2 to the power k + 1.
 fn doubling(random: &mut Random, w: usize) -> Difference {
-    let count = random.between(30, 33);
+    let count = random.between(28, 32);
     let start = random.below(w - 2 * count + 1);
     let cut = |i: usize| {
         let mut cut = Cube::all_free(w);

@@ -74,7 +74,8 @@ fn round(random: &mut Random) -> Vec<Kind> {
 }
 
 /// What free lines have too seldom: great W for every call; many cuts or differences where a call
-/// can read or write them; long walks; full files with damage; damage beside two W.
+/// can read or write them; ceilings about the greatest; long walks; full files with damage; damage
+/// beside two W.
 fn extremes() -> Vec<Kind> {
     let mut extremes = Vec::new();
     for (name, _) in CALLS {
@@ -95,6 +96,9 @@ fn extremes() -> Vec<Kind> {
         if name == "region_intersect" {
             add(Theme::Plain, &[Twist::W, Twist::Damage]);
             add(Theme::Plain, &[Twist::W, Twist::Damage]);
+        }
+        if name == "ceiling" {
+            (0..7).for_each(|_| add(Theme::Cuts, &[]));
         }
         if name == "prefix" {
             add(Theme::Deep, &[Twist::Damage]);

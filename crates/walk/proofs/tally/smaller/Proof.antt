@@ -51,7 +51,7 @@ returns c cs h =
 returns-2 : tie.Need-returns-2
 returns-2 c cs h =
     let b = codes (c .before .before .before .before .before .before .before .before .before .args .base .now) in
-    first-smaller (ceilingFrom b cs) (ceilingOver b cs) (h .nested) (over (c .before) cs h) (c .if1 .left)
+    first-smaller (ceilingFrom b cs) (ceilingOver b cs) (h .nested) (over (c .before) cs h) (omega (arith, c .if1 .left))
 
 pub smaller-spec : {M : Type 1} → statement M
 smaller-spec =
