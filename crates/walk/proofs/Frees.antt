@@ -1,22 +1,28 @@
--- Counting the positions that a cube leaves free and another does not.
+-- The positions that a cube leaves free and another does not.
 --   count-append, count-most   the free positions of two cubes in a row; no more than there are positions
 --   lost-count                 they are free in the one and not in the meet
 --   count-turn, met-turn       one byte more of the one, and of the meet
 --   lost-fewer, lost-left      what is left when all bytes are counted
-use Prim.Native.Nat.{ℕ, suc, _+_, _-_, _≤_, _<_}
+--   frees-lost                 of a cut that meets the base, they are those that it fixes
+--   lost-mark                  with one cut more that meets the base, those that it fixes are marked too
+--   lost-none                  with no cut there are none
+use Prim.Native.Nat.{ℕ, zero, suc, _+_, _-_, _≤_, _<_}
 use native.Mathlib.Omega.{arith}
 use native.Mathlib.Numerals.{add-one}
 use mathlib.Core.Path.{_≡_, refl, sym, ap, ap₂, _∙_}
 use mathlib.Core.List.{List, [], _∷_, _++_}
-use mathlib.Core.Bool.{Bool, true, false, not, _&&_, cond}
+use mathlib.Core.Bool.{Bool, true, false, not, _&&_, _||_, cond, or-true, and-false}
 use lib.Bits.{bitAnd}
-use lib.ListN.{length, getD, drop, drop-of-length-le}
+use lib.ListN.{length, getD, drop, replicate, drop-of-length-le}
 use lib.Seq.{drop-cons}
-use Rattle.model.specs.Cube.{Code, none, v0, v1, free, Cube, meetCode, meet}
-use Rattle.model.specs.Ceiling.{marks}
+use Rattle.model.specs.Cube.{Code, none, v0, v1, free, Cube, meetCode, meet, coded, shares}
+use Rattle.model.specs.Walk.{opens}
+use Rattle.model.specs.Ceiling.{frees, mark, unmarked, marks}
+use Rattle.model.proofs.Bools.{and-left, and-right}
 use Rattle.format.specs.Bytes.{codes, isFree}
 use Rattle.format.proofs.Coding.{length-codes}
 use Rattle.cube.specs.Count.{freeCount}
+use Rattle.cube.specs.Whole.{cubeOf}
 use Rattle.cube.proofs.Codes.{codes-and}
 use Rattle.walk.specs.Tally.{lost}
 
@@ -109,3 +115,60 @@ module _ (a b : List ℕ) (i n m : ℕ) (l : length a ≡ length b) (h : length 
 
   pub lost-left : n - m ≡ marks (lost (codes a) (codes b))
   lost-left = omega (arith, counted)
+
+-- of a cut that meets the base, the positions that the base leaves free and the cut does not are those that it fixes
+opens-lost : (x y : Code) → coded (meetCode x y) ≡ true → (isFree x && not (isFree y)) ≡ opens x y
+opens-lost none y e = refl
+opens-lost v0 y e = refl
+opens-lost v1 y e = refl
+opens-lost free none e = cc
+opens-lost free v0 e = refl
+opens-lost free v1 e = refl
+opens-lost free free e = refl
+
+pub frees-lost : (b c : Cube) → shares b c ≡ true → marks (lost b c) ≡ frees b c
+unfolding lost marks frees
+frees-lost [] c e = refl
+frees-lost (x ∷ b) [] e = cc
+frees-lost (x ∷ b) (y ∷ c) e =
+    rw (opens-lost x y (and-left (coded (meetCode x y)) (shares b c) e), frees-lost b c (and-right (coded (meetCode x y)) (shares b c) e)) (go (opens x y))
+  where
+    go : (g : Bool) → cond g (suc (frees b c)) (frees b c) ≡ cond g 1 0 + frees b c
+    go true = omega arith
+    go false = omega arith
+
+-- the AND with one cut more marks what that cut fixes
+lost-more : (x y z : Code) → coded (meetCode x z) ≡ true → (isFree x && not (isFree (meetCode y z))) ≡ (opens x z || (isFree x && not (isFree y)))
+lost-more none y z e = refl
+lost-more v0 y z e = refl
+lost-more v1 y z e = refl
+lost-more free none z e = sym (or-true (opens free z))
+lost-more free v0 none e = refl
+lost-more free v0 v0 e = refl
+lost-more free v0 v1 e = refl
+lost-more free v0 free e = refl
+lost-more free v1 none e = refl
+lost-more free v1 v0 e = refl
+lost-more free v1 v1 e = refl
+lost-more free v1 free e = refl
+lost-more free free none e = cc
+lost-more free free v0 e = refl
+lost-more free free v1 e = refl
+lost-more free free free e = refl
+
+pub lost-mark : (b u c : Cube) → length b ≡ length u → shares b c ≡ true → lost b (meet u c) ≡ mark b c (lost b u)
+unfolding lost mark
+lost-mark [] u c l e = refl
+lost-mark (x ∷ b) u [] l e = cc
+lost-mark (x ∷ b) [] (z ∷ c) l e = absurd (omega arith)
+lost-mark (x ∷ b) (y ∷ u) (z ∷ c) l e =
+    ap₂ (λ (m : Bool) (ms : List Bool). m ∷ ms)
+    (lost-more x y z (and-left (coded (meetCode x z)) (shares b c) e))
+    (lost-mark b u c (omega arith) (and-right (coded (meetCode x z)) (shares b c) e))
+
+-- a cube that is all free loses nothing
+pub lost-none : (n : ℕ) (b : List ℕ) → length b ≤ n → lost (codes b) (cubeOf (length b) (replicate n 255)) ≡ unmarked (codes b)
+unfolding lost cubeOf
+lost-none n [] h = refl
+lost-none zero (x ∷ b) h = absurd (omega arith)
+lost-none (suc n) (x ∷ b) h = simp (and-false, lost-none n b (omega arith))

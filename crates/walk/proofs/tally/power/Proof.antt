@@ -5,7 +5,7 @@ use native.Mathlib.Omega.{arith}
 use mathlib.Core.Path.{_∙_}
 use lib.Pow.{shl-exact, pow-mono}
 use borrow.Author.Needs.{needs}
-use Rattle.walk.proofs.Tallies.{capped-large, capped-small}
+use Rattle.walk.proofs.Caps.{capped-large, capped-small}
 use Rattle.walk.proofs.tally.power.Statement.{statement}
 use Rattle.walk.proofs.tally.power.Tie as tie
 

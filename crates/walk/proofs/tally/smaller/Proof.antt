@@ -9,7 +9,8 @@ use Rattle.model.specs.Cube.{Cube}
 use Rattle.model.specs.Ceiling.{ceilingFrom, marks, ceilingOver, capped}
 use Rattle.format.specs.Bytes.{codes}
 use Rattle.walk.specs.Tally.{lost, Tallied}
-use Rattle.walk.proofs.Tallies.{kept-front, second-smaller, first-smaller, tally-over}
+use Rattle.walk.proofs.Caps.{first-smaller, second-smaller}
+use Rattle.walk.proofs.Tallies.{kept-front, tally-over}
 use Rattle.walk.proofs.tally.smaller.Statement.{statement}
 use Rattle.walk.proofs.tally.smaller.Tie as tie
 
