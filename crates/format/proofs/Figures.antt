@@ -12,7 +12,8 @@ use Rattle.model.specs.Ceiling.{frees, ceilingFrom, meeting, mark, matters, mar
 use Rattle.answer.specs.Answer.{fault, counted, showing, wrote}
 use Rattle.format.specs.Rows.{passes, outcome}
 use Rattle.format.specs.Bytes.{readHeader, headerBytes, readCube, cubeBytes, writeCube, cubeFault, lentFault}
-use Rattle.format.specs.Records.{countAt, frontLen, baseAt, cubeAt, cubesAt, cubesFault, widthFault, differenceFault, frontBytes, differenceBytes, fileBytes}
+use Rattle.format.specs.Records.{countAt, frontLen, baseAt, cubeAt, cubesAt, cubesFault, widthFault, differenceFault}
+use Rattle.format.specs.Records.{frontBytes, differenceBytes, fileBytes}
 use Rattle.format.specs.Told.{silent}
 use Rattle.format.specs.Calls.{cube-in, diff-less, diff-empty, ceiling-of, equal-fields}
 
@@ -44,5 +45,7 @@ pub figures :
     × (equal-fields 2 0 1 1 8 ≡ record { answer = wrote 8; bytes = 6 ∷ 0 ∷ 2 ∷ 0 ∷ 2 ∷ 0xFF ∷ 0x6F ∷ 0x9F ∷ [] })
     -- P10: W 2, 1* less 0* tidies to 1* with no cut
     × (tidy (less (v1 ∷ free ∷ []) ((v0 ∷ free ∷ []) ∷ [])) ≡ less (v1 ∷ free ∷ []) [] ∷ [])
-unfolding outcome passes readHeader headerBytes readCube cubeBytes cubeFault lentFault countAt frontLen baseAt cubeAt cubesAt cubesFault widthFault differenceFault frontBytes differenceBytes fileBytes tidyFrom intersection restored unequal equalFields visit decide frees ceilingFrom meeting mark matters marks cube-in diff-less diff-empty ceiling-of equal-fields
+unfolding outcome passes readHeader headerBytes readCube cubeBytes cubeFault lentFault countAt frontLen baseAt cubeAt cubesAt cubesFault widthFault
+    differenceFault frontBytes differenceBytes fileBytes tidyFrom intersection restored unequal equalFields visit decide frees ceilingFrom meeting mark
+    matters marks cube-in diff-less diff-empty ceiling-of equal-fields
 figures = (refl, refl, refl, refl, refl, refl, refl, refl, refl, refl, refl, refl, refl)

@@ -23,7 +23,8 @@ use Rattle.model.proofs.Spread.{pieces-at-most-over}
 use Rattle.model.proofs.Parts.{Part, done, keep, fix, part-self, part-trans, wider-shares, children-part}
 
 -- walks one after another, each of at most so many pieces
-turn-count : {A : Type 0} (f : A → Found) (most : ℕ) (P : A → Type 0) → ((x : A) → P x → f x .pieces ≤ most) → (xs : List A) → All P xs → inTurn f xs .pieces ≤ length xs * most
+turn-count : {A : Type 0} (f : A → Found) (most : ℕ) (P : A → Type 0) → ((x : A) → P x → f x .pieces ≤ most)
+    → (xs : List A) → All P xs → inTurn f xs .pieces ≤ length xs * most
 turn-count f most P t [] a = omega arith
 turn-count f most P t (x ∷ xs) a =
     let one = t x (a .0) in
@@ -34,7 +35,8 @@ turn-count f most P t (x ∷ xs) a =
 opened-count : (x y : Code) (p c : Cube) → length (children (x ∷ p) (y ∷ c)) ≡ cond (opens x y) 1 0 + length (children p c)
 opened-count x y p c = go (opens x y)
   where
-    go : (g : Bool) → length (cond g ((other y ∷ p) ∷ map (λ q. y ∷ q) (children p c)) (map (λ q. x ∷ q) (children p c))) ≡ cond g 1 0 + length (children p c)
+    go : (g : Bool)
+        → length (cond g ((other y ∷ p) ∷ map (λ q. y ∷ q) (children p c)) (map (λ q. x ∷ q) (children p c))) ≡ cond g 1 0 + length (children p c)
     go true = simp length-map (omega arith)
     go false = simp length-map (omega arith)
 
@@ -78,7 +80,8 @@ clash-frees (keep {x = x} {q = p} {p = b} s) (y ∷ c) e f =
 clash-frees (fix d s) [] e f = absurd (false≢true f)
 clash-frees (fix {x = x} {q = p} {p = b} d s) (y ∷ c) e f = go (coded (meetCode x y)) refl (λ q. clash-frees s c q (and-right (coded y) (shares b c) f)) e
   where
-    go : (g : Bool) → coded (meetCode x y) ≡ g → (shares p c ≡ false → 1 ≤ frees b c) → g && shares p c ≡ false → 1 ≤ cond (opens free y) 1 0 + frees b c
+    go : (g : Bool) → coded (meetCode x y) ≡ g → (shares p c ≡ false → 1 ≤ frees b c) → g && shares p c ≡ false
+        → 1 ≤ cond (opens free y) 1 0 + frees b c
     go true m ih e = omega (arith, ih e)
     go false m ih e = rw (clash-opens x y d (and-left (coded y) (shares b c) f) m) (omega arith)
 

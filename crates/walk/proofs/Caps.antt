@@ -1,14 +1,14 @@
 -- Numbers with the cap of the ceiling.
 --   capped-raised              the cap may be taken at each cut, and of a power of 2
---   capped-large, capped-small a number at the cap or above it, and one below
+--   capped-large               a number at the cap or above it
 --   first-smaller, second-smaller   the smaller of two numbers may be taken before the cap or after it
-use Prim.Native.Nat.{ℕ, zero, suc, _+_, _*_, _≤_, _<_, min}
+use Prim.Native.Nat.{ℕ, zero, suc, _+_, _*_, _≤_, min}
 use native.Mathlib.Nat.{mul-le-mul-left, zero-mul, le-trans, min-eq-left, min-eq-right}
 use native.Mathlib.Omega.{arith}
 use mathlib.Core.Path.{_≡_, refl, sym, ap, _∙_}
 use mathlib.Core.Bool.{Bool, true, false, cond}
 use lib.Dec.{leb}
-use borrow.Author.Tests.{le-leb, lt-leb, leb-true, leb-false}
+use borrow.Author.Tests.{le-leb, leb-true, leb-false}
 use Rattle.model.specs.Ceiling.{mostPieces, capped}
 use Rattle.model.proofs.Bound.{capped-at-most, capped-above}
 
@@ -29,9 +29,6 @@ capped-raised f x = go (leb mostPieces x) refl
 
 pub capped-large : (n : ℕ) → mostPieces ≤ n → mostPieces ≡ capped n
 capped-large n h = rw (le-leb mostPieces n h)
-
-pub capped-small : (n : ℕ) → n < mostPieces → n ≡ capped n
-capped-small n h = rw (lt-leb mostPieces n h)
 
 capped-rises : (m n : ℕ) → m ≤ n → capped m ≤ capped n
 capped-rises m n h = capped-above (capped m) n (capped-at-most m .0) (le-trans (capped-at-most m .1) h)

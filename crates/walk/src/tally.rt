@@ -70,7 +70,8 @@ fn power(s: u64) -> u32
 
 // The tally with one cut more, in front of those counted.
 pub(crate) fn tallied(base: &[u8], cut: &[u8], t: Tally) -> Tally
-    requires { ⌜ (length (now base) ≡ length (now cut)) × (length (now base) ≤ widestCube) × (length (t .kept) ≡ widestCube) × (t .met < mostPieces) ⌝ }
+    requires cubes { ⌜ (length (now base) ≡ length (now cut)) × (length (now base) ≤ widestCube) ⌝ }
+    requires tally { ⌜ (length (t .kept) ≡ widestCube) × (t .met < mostPieces) ⌝ }
     ensures counts { λ r. ⌜ ((cs : List Cube) → Tallied (now (base .entry)) cs t → Tallied (now (base .entry)) (codes (now (cut .entry)) ∷ cs) r) ⌝ }
     ensures small { λ r. ⌜ (length (r .kept) ≡ widestCube) × (r .met ≤ t .met + 1) ⌝ }
 {

@@ -64,7 +64,7 @@ tallied-requires c κs =
     let x = c .before .before .before .before .before .args in
     let l = c .before .before .loop in
     let u = under (x .at) (l .k) (length (x .base .now)) (l .end) (search needs) (l .inv .2) in
-    (part-back-length (x .s .now) (l .end) (length (x .base .now)) u (l .inv .3), search needs, l .inv .5, omega (arith, l .inv .4))
+    ((part-back-length (x .s .now) (l .end) (length (x .base .now)) u (l .inv .3), search needs), (l .inv .5, omega (arith, l .inv .4)))
 
 sub-k : tie.Need-sub-k Inv-loop μ-loop
 sub-k c = search needs

@@ -79,7 +79,8 @@ returns-2 c =
     let f = c .before .before .before .before .front-at in
     let q = c .before .before .before .cube-len in
     let h : f .result .base + q .result ≤ length (x .s .now) = omega (arith, stands (c .before .before .before .before), q .ensures) in
-    let n = rw (whole-part (q .result) (x .s .now) (f .result .base), ← part-length (q .result) (x .s .now) (f .result .base) h, q .ensures) at (c .before .bound .ensures) in
+    let l = part-length (q .result) (x .s .now) (f .result .base) h in
+    let n = rw (whole-part (q .result) (x .s .now) (f .result .base), ← l, q .ensures) at (c .before .bound .ensures) in
     c .counted .ensures ∙ ap (λ (t : Told). t .answer) (ceiling-told (x .w) (x .s .now) _ (one-refusal .ensures) (if1 .left) (f .ensures .0) _ n)
 
 pub ceiling-spec : {M : Type 1} → statement M

@@ -1,11 +1,12 @@
 -- `walk::tally::power` meets its contract.
-use Prim.Native.Nat.{_^_, _≤_, _<_}
+use Prim.Native.Nat.{_^_, _≤_}
 use native.Mathlib.Nat.{one-mul}
 use native.Mathlib.Omega.{arith}
-use mathlib.Core.Path.{_∙_}
+use mathlib.Core.Path.{sym, _∙_}
 use lib.Pow.{shl-exact, pow-mono}
 use borrow.Author.Needs.{needs}
-use Rattle.walk.proofs.Caps.{capped-large, capped-small}
+use Rattle.model.proofs.Bound.{capped-same}
+use Rattle.walk.proofs.Caps.{capped-large}
 use Rattle.walk.proofs.tally.power.Statement.{statement}
 use Rattle.walk.proofs.tally.power.Tie as tie
 
@@ -22,8 +23,8 @@ returns-2 : tie.Need-returns-2
 returns-2 c =
     let n = 2 ^ c .before .args .s in
     let k : c .before .args .s ≤ 31 = omega arith in
-    let h : n < 4294967295 = omega (arith, pow-mono k) in
-    shl-exact 1 (c .before .args .s) 32 (omega arith) (omega arith) ∙ one-mul n ∙ capped-small n h
+    let h : n ≤ 4294967295 = omega (arith, pow-mono k) in
+    shl-exact 1 (c .before .args .s) 32 (omega arith) (omega arith) ∙ one-mul n ∙ sym (capped-same n h)
 
 pub power-spec : {M : Type 1} → statement M
 power-spec = tie.close (tie.spec returns cast-result shl-result returns-2)

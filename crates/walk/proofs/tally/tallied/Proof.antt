@@ -60,7 +60,7 @@ returns-2 c =
     let into = c .before .before .before .before .meet-into .ensures in
     let front = take (q - 0) (x .t .kept) in
     let h : q ≤ length (x .t .kept) = omega (arith, p) in
-    let k = met-piece q front (x .cut .now) (replicate widestCube 255) (kept-front-length q (x .t .kept) h) (sym (p .0)) (p .1) in (
+    let k = met-piece q front (x .cut .now) (replicate widestCube 255) (kept-front-length q (x .t .kept) h) (sym (p .0 .0)) (p .0 .1) in (
       λ cs g. tally-met b (codes (x .cut .now)) cs (x .t) g e h _ (c .before .raised .ensures ∙ f) refl
           (ap (cubeOf q) into ∙ k ∙ ap (λ (u : Cube). meet u (codes (x .cut .now))) (kept-front q (x .t .kept))),
       (ap length into ∙ into-long front (x .cut .now) (replicate widestCube 255), omega arith),
