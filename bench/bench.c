@@ -34,7 +34,8 @@ struct reply ask_plain(const struct question *q) {
 
 static int alike(const struct reply *a, const struct reply *b) {
     return a->answer.number == b->answer.number && a->answer.operand == b->answer.operand && a->answer.offset == b->answer.offset
-           && a->answer.count == b->answer.count && a->answer.written == b->answer.written && !memcmp(a->header, b->header, sizeof a->header);
+           && a->answer.count == b->answer.count && a->answer.written == b->answer.written && a->answer.index == b->answer.index
+           && !memcmp(a->header, b->header, sizeof a->header);
 }
 
 static int check(const struct class *c) {
@@ -42,8 +43,9 @@ static int check(const struct class *c) {
     for (size_t i = 0; i < c->count; i++) {
         struct reply a = ask_ours(&c->questions[i]), b = ask_plain(&c->questions[i]);
         if (!alike(&a, &b)) {
-            printf("%s: question %zu differs: number %u count %u, baseline number %u count %u\n", c->name, i, (unsigned)a.answer.number,
-                   (unsigned)a.answer.count, (unsigned)b.answer.number, (unsigned)b.answer.count);
+            printf("%s: question %zu differs: number %u count %u index %u, baseline number %u count %u index %u\n", c->name, i,
+                   (unsigned)a.answer.number, (unsigned)a.answer.count, (unsigned)a.answer.index, (unsigned)b.answer.number,
+                   (unsigned)b.answer.count, (unsigned)b.answer.index);
             return 1;
         }
         pieces += a.answer.count;

@@ -5,11 +5,11 @@
 enum { EMPTY = 1, MEMBER = 2, UNDECIDED = 3 };
 
 static struct permit_answer said(unsigned number) {
-    return (struct permit_answer){ .number = (uint8_t)number };
+    return (struct permit_answer){ .number = (uint8_t)number, .index = PERMIT_NO_DIFFERENCE };
 }
 
 static struct permit_answer fault(unsigned number, size_t offset) {
-    return (struct permit_answer){ .number = (uint8_t)number, .operand = 1, .offset = offset };
+    return (struct permit_answer){ .number = (uint8_t)number, .operand = 1, .offset = offset, .index = PERMIT_NO_DIFFERENCE };
 }
 
 static size_t u16(const uint8_t *s) {
@@ -107,9 +107,10 @@ struct permit_answer plain_member(const uint8_t *region, size_t region_len, cons
         return said(11);
     for (unsigned p = 0; p < w; p++)
         spelled[p / 4] |= (uint8_t)(((header[p / 8] >> (7 - p % 8) & 1) + 1) << (6 - 2 * (p % 4)));
-    for (size_t at = 6; at < region_len; at += 2 + u16(region + at))
+    unsigned index = 0;
+    for (size_t at = 6; at < region_len; at += 2 + u16(region + at), index++)
         if (in_difference(region + at, spelled, (w + 3) / 4))
-            return said(1);
+            return (struct permit_answer){ .number = 1, .index = (uint16_t)index };
     return said(2);
 }
 
@@ -165,9 +166,13 @@ struct permit_answer plain_empty(const uint8_t *region, size_t region_len, uint3
         return said(22);
     walk.n = (w + 3) / 4;
     int found = EMPTY;
-    for (size_t at = 6; at < region_len && found == EMPTY; at += 2 + u16(region + at))
+    unsigned walked = 0;
+    for (size_t at = 6; at < region_len && found == EMPTY; at += 2 + u16(region + at), walked++)
         found = visit(&walk, region + at + 5, region + at + 5 + walk.n, region[at + 4]);
-    struct permit_answer answer = { .number = (uint8_t)found, .count = walk.spent };
+    struct permit_answer answer = said((unsigned)found);
+    answer.count = walk.spent;
+    if (found != EMPTY)
+        answer.index = (uint16_t)(walked - 1);
     if (found == MEMBER) {
         answer.written = (w + 7) / 8;
         memset(header, 0, answer.written);

@@ -1,4 +1,5 @@
-/* A packet broker's host: can any header come through the region in a file, and is the header that it shows a member? */
+/* A packet broker's host: can any header come through the region in a file, is the header that it shows a member, and
+   which permit lets it through? */
 #include <stdio.h>
 #include <stdlib.h>
 
@@ -7,8 +8,8 @@
 static uint8_t region[65536];
 
 static void print_answer(const char *question, struct permit_answer a) {
-    printf("%s: number %u operand %u offset %zu count %u written %zu\n", question, (unsigned)a.number, (unsigned)a.operand, a.offset,
-           (unsigned)a.count, a.written);
+    printf("%s: number %u operand %u offset %zu count %u written %zu index %u\n", question, (unsigned)a.number, (unsigned)a.operand, a.offset,
+           (unsigned)a.count, a.written, (unsigned)a.index);
 }
 
 int main(int argc, char **argv) {

@@ -9,13 +9,18 @@ pub fn intersect(first: &Difference, second: &Difference) -> Option<Difference> 
     Some(Difference { base, cuts })
 }
 
-/// The pieces of a less A minus b less b1..bk: a less A and b; then a meet bj less A, where a and
-/// bj share a header.
-pub fn subtract(first: &Difference, second: &Difference) -> Vec<Difference> {
+/// The pieces of a less A minus b less b1..bk with their numbers: 0 is a less A and b; j is a meet
+/// bj less A, where a and bj share a header. Where they share none there is no piece j.
+pub fn numbered_pieces(first: &Difference, second: &Difference) -> Vec<(usize, Difference)> {
     let mut without = first.clone();
     without.cuts.push(second.base.clone());
-    let restored = second.cuts.iter().filter_map(|cut| {
-        Some(Difference { base: first.base.meet(cut)?, cuts: first.cuts.clone() })
+    let restored = second.cuts.iter().zip(1..).filter_map(|(cut, j)| {
+        Some((j, Difference { base: first.base.meet(cut)?, cuts: first.cuts.clone() }))
     });
-    std::iter::once(without).chain(restored).collect()
+    std::iter::once((0, without)).chain(restored).collect()
+}
+
+/// The first less the second, piece by piece.
+pub fn subtract(first: &Difference, second: &Difference) -> Vec<Difference> {
+    numbered_pieces(first, second).into_iter().map(|(_, piece)| piece).collect()
 }

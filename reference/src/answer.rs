@@ -3,6 +3,9 @@
 /// A number of the document's table.
 pub type Number = u8;
 
+/// The index of a result that no difference decided.
+pub const NONE_DECIDED: u16 = 65_535;
+
 /// An answer that is no refusal.
 #[derive(Clone, Debug, PartialEq, Eq)]
 pub struct Answer {
@@ -11,6 +14,8 @@ pub struct Answer {
     pub count: u32,
     /// The bytes written.
     pub bytes: Vec<u8>,
+    /// The number of the difference, or of inclusion's piece, that decided; else `NONE_DECIDED`.
+    pub index: u16,
 }
 
 /// A refusal. Parts that do not apply are 0.
@@ -25,19 +30,34 @@ pub struct Refusal {
 pub type Outcome = Result<Answer, Refusal>;
 
 impl Answer {
+    /// A yes or no that no difference decided.
     pub fn yes_or_no(yes: bool) -> Answer {
-        Answer { number: if yes { 1 } else { 2 }, count: 0, bytes: Vec::new() }
+        let number = if yes { 1 } else { 2 };
+        Answer { number, count: 0, bytes: Vec::new(), index: NONE_DECIDED }
+    }
+
+    /// Yes by the first difference that has the header, or no if none has.
+    pub fn member(first: Option<usize>) -> Answer {
+        match first {
+            Some(difference) => Answer { index: index(difference), ..Answer::yes_or_no(true) },
+            None => Answer::yes_or_no(false),
+        }
     }
 
     pub fn ceiling(count: u32) -> Answer {
-        Answer { number: 0, count, bytes: Vec::new() }
+        Answer { number: 0, count, bytes: Vec::new(), index: NONE_DECIDED }
     }
 
     /// The bytes as written to a buffer with this room.
     pub fn written(bytes: Vec<u8>, room: usize) -> Outcome {
         needs_room(bytes.len(), room)?;
-        Ok(Answer { number: 0, count: 0, bytes })
+        Ok(Answer { number: 0, count: 0, bytes, index: NONE_DECIDED })
     }
+}
+
+/// A difference's or a piece's number as a result has it.
+pub fn index(number: usize) -> u16 {
+    u16::try_from(number).expect("an index has two bytes")
 }
 
 impl Refusal {

@@ -60,13 +60,13 @@ pub fn diff_member(w: u64, record: &[u8], header: &[u8]) -> Outcome {
     let w = direct_w(w)?;
     let difference = single(1, w, record)?;
     let header = lent_header(w, header)?;
-    Ok(Answer::yes_or_no(difference.has(&header)))
+    Ok(Answer::member(difference.has(&header).then_some(0)))
 }
 
 pub fn region_member(file: &[u8], header: &[u8]) -> Outcome {
     let region = Region::read(1, file)?;
     let header = lent_header(region.w, header)?;
-    Ok(Answer::yes_or_no(region.has(&header)))
+    Ok(Answer::member(region.first_with(&header)))
 }
 
 pub fn diff_intersect(w: u64, r1: &[u8], r2: &[u8], room: usize) -> Outcome {
@@ -111,13 +111,13 @@ pub fn diff_empty(w: u64, record: &[u8], allowance: u32, room: usize) -> Outcome
     let w = direct_w(w)?;
     let difference = single(1, w, record)?;
     needs_room(Header::length(w), room)?;
-    Ok(walk::walk([&difference], allowance))
+    Ok(walk::walk([(0, difference)], allowance))
 }
 
 pub fn region_empty(file: &[u8], allowance: u32, room: usize) -> Outcome {
     let region = Region::read(1, file)?;
     needs_room(Header::length(region.w), room)?;
-    Ok(walk::walk(&region.differences, allowance))
+    Ok(walk::walk(region.differences.into_iter().enumerate(), allowance))
 }
 
 /// Whether the first difference is in the second: walks the untidied pieces of first less second.
@@ -126,7 +126,7 @@ pub fn diff_in(w: u64, r1: &[u8], r2: &[u8], allowance: u32, room: usize) -> Out
     let first = single(1, w, r1)?;
     let second = single(2, w, r2)?;
     needs_room(Header::length(w), room)?;
-    Ok(walk::walk(&algebra::subtract(&first, &second), allowance))
+    Ok(walk::walk(algebra::numbered_pieces(&first, &second), allowance))
 }
 
 pub fn ceiling(w: u64, record: &[u8]) -> Outcome {

@@ -2,7 +2,7 @@
 
 use std::io::{self, BufRead, Write};
 
-use crate::answer::{Number, Outcome, Refusal};
+use crate::answer::{Number, Outcome, Refusal, NONE_DECIDED};
 use crate::calls;
 use crate::hex;
 
@@ -193,10 +193,11 @@ pub fn ask(question: &Question) -> String {
 fn written(outcome: Outcome) -> String {
     match outcome {
         Ok(answer) => format!(
-            "{} 0 0 {} {} {}",
+            "{} 0 0 {} {} {} {}",
             answer.number,
             answer.count,
             answer.bytes.len(),
+            answer.index,
             stretch(&answer.bytes)
         ),
         Err(refusal) => format!("{} -", refused(refusal)),
@@ -231,13 +232,15 @@ fn read_on(file: &[u8], place: u64) -> String {
     format!("{parts} {}", step.place)
 }
 
-/// The five parts of an answer that counts and writes nothing.
+/// The six parts of an answer that counts and writes nothing, and that no difference decided.
 fn plain(number: Number, offset: u64) -> String {
-    format!("{number} 0 {offset} 0 0")
+    format!("{number} 0 {offset} 0 0 {NONE_DECIDED}")
 }
 
+/// The six parts of a refusal.
 fn refused(refusal: Refusal) -> String {
-    format!("{} {} {} 0 0", refusal.number, refusal.operand, refusal.offset)
+    let Refusal { number, operand, offset } = refusal;
+    format!("{number} {operand} {offset} 0 0 {NONE_DECIDED}")
 }
 
 fn stretch(bytes: &[u8]) -> String {

@@ -15,9 +15,9 @@ pub struct Region {
 }
 
 impl Region {
-    /// Whether the header is in at least one difference.
-    pub fn has(&self, header: &Header) -> bool {
-        self.differences.iter().any(|d| d.has(header))
+    /// The number of the first difference that has the header.
+    pub fn first_with(&self, header: &Header) -> Option<usize> {
+        self.differences.iter().position(|d| d.has(header))
     }
 
     /// Reads the whole file; the refusal has the offset of the record at fault.

@@ -2,6 +2,7 @@
 //! gives for them.
 
 mod ceilings;
+mod index;
 
 use crate::cases::{case, Case};
 use crate::notation::{c, r};
@@ -10,16 +11,16 @@ pub fn all() -> Vec<Case> {
     let less_memory = [code_zero(), every_byte(), every_place()];
     let default_route = [whole_field(), every_field(), addresses(), every_bit(), every_length()];
     let earlier = less_memory.into_iter().chain(default_route).flatten();
-    earlier.chain(ceilings::all()).collect()
+    earlier.chain(ceilings::all()).chain(index::all()).collect()
 }
 
 /// Code 0 at a position is 13, in an unused place 14, and 13 comes first.
 fn code_zero() -> Vec<Case> {
     let free = c("***");
     vec![
-        case("B70", format!("cube_in 3 CF {free}"), "13 1 0 0 0 -"),
-        case("B70", format!("cube_in 3 FC {free}"), "14 1 0 0 0 -"),
-        case("B70", format!("cube_in 3 CC {free}"), "13 1 0 0 0 -"),
+        case("B70", format!("cube_in 3 CF {free}"), "13 1 0 0 0 65535 -"),
+        case("B70", format!("cube_in 3 FC {free}"), "14 1 0 0 0 65535 -"),
+        case("B70", format!("cube_in 3 CC {free}"), "13 1 0 0 0 65535 -"),
     ]
 }
 
@@ -27,9 +28,9 @@ fn code_zero() -> Vec<Case> {
 fn every_byte() -> Vec<Case> {
     let byte = |number: usize| [64, 16, 4, 1].map(|weight| number / weight % 4);
     let right = |w: usize, codes: [usize; 4]| match codes.split_at(w) {
-        (positions, _) if positions.contains(&0) => "13 1 0 0 0 -",
-        (_, unused) if unused.iter().any(|&code| code != 3) => "14 1 0 0 0 -",
-        _ => "1 0 0 0 0 -",
+        (positions, _) if positions.contains(&0) => "13 1 0 0 0 65535 -",
+        (_, unused) if unused.iter().any(|&code| code != 3) => "14 1 0 0 0 65535 -",
+        _ => "1 0 0 0 0 65535 -",
     };
     let asked = |w, [a, b, c, d]: [usize; 4]| {
         let question = format!("cube_in {w} {:X}{:X} FF", 4 * a + b, 4 * c + d);
@@ -47,7 +48,7 @@ fn every_place() -> Vec<Case> {
         let mut record = free.clone();
         let digit = front + place / 2;
         record.replace_range(digit..digit + 1, ["3", "C"][place % 2]);
-        let right = if place < 317 { "13 1 0 0 0 -" } else { "14 1 0 0 0 -" };
+        let right = if place < 317 { "13 1 0 0 0 65535 -" } else { "14 1 0 0 0 65535 -" };
         case("B70", format!("ceiling 317 {record}"), right)
     };
     (0..320).map(asked).collect()
@@ -56,20 +57,20 @@ fn every_place() -> Vec<Case> {
 /// A prefix of length 0 leaves every position free; its refusals come in the order of any prefix.
 fn whole_field() -> Vec<Case> {
     vec![
-        case("B1", "prefix 8 2 4 0 00 2", "0 0 0 0 2 FFFF"),
-        case("B1", "prefix 8 2 4 0 - 2", "11 0 0 0 0 -"),
-        case("B1", "prefix 8 2 4 0 01 2", "11 0 0 0 0 -"),
-        case("B1", "prefix 8 2 0 0 - 2", "21 0 0 0 0 -"),
-        case("B1", "prefix 8 5 4 0 80 2", "21 0 0 0 0 -"),
-        case("B1", "prefix 0 5 4 0 80 0", "10 0 0 0 0 -"),
-        case("B1", "prefix 321 5 4 0 00 81", "10 0 0 0 0 -"),
-        case("B1", "prefix 8 18446744073709551615 1 0 00 2", "21 0 0 0 0 -"),
-        case("B1", "prefix 8 0 18446744073709551615 0 00 2", "21 0 0 0 0 -"),
-        case("B1", "prefix 8 2 4 5 00 2", "21 0 0 0 0 -"),
-        case("B1", "prefix 8 2 4 18446744073709551615 00 2", "21 0 0 0 0 -"),
-        case("B1", "prefix 8 2 4 0 80 0", "11 0 0 0 0 -"),
-        case("B1", "prefix 8 2 4 0 00 1", "22 0 0 0 0 -"),
-        case("B1", "prefix 8 2 4 0 00 1048576", "0 0 0 0 2 FFFF"),
+        case("B1", "prefix 8 2 4 0 00 2", "0 0 0 0 2 65535 FFFF"),
+        case("B1", "prefix 8 2 4 0 - 2", "11 0 0 0 0 65535 -"),
+        case("B1", "prefix 8 2 4 0 01 2", "11 0 0 0 0 65535 -"),
+        case("B1", "prefix 8 2 0 0 - 2", "21 0 0 0 0 65535 -"),
+        case("B1", "prefix 8 5 4 0 80 2", "21 0 0 0 0 65535 -"),
+        case("B1", "prefix 0 5 4 0 80 0", "10 0 0 0 0 65535 -"),
+        case("B1", "prefix 321 5 4 0 00 81", "10 0 0 0 0 65535 -"),
+        case("B1", "prefix 8 18446744073709551615 1 0 00 2", "21 0 0 0 0 65535 -"),
+        case("B1", "prefix 8 0 18446744073709551615 0 00 2", "21 0 0 0 0 65535 -"),
+        case("B1", "prefix 8 2 4 5 00 2", "21 0 0 0 0 65535 -"),
+        case("B1", "prefix 8 2 4 18446744073709551615 00 2", "21 0 0 0 0 65535 -"),
+        case("B1", "prefix 8 2 4 0 80 0", "11 0 0 0 0 65535 -"),
+        case("B1", "prefix 8 2 4 0 00 1", "22 0 0 0 0 65535 -"),
+        case("B1", "prefix 8 2 4 0 00 1048576", "0 0 0 0 2 65535 FFFF"),
     ]
 }
 
@@ -79,7 +80,7 @@ fn every_field() -> Vec<Case> {
         let value = "00".repeat(n.div_ceil(8));
         let size = w.div_ceil(4);
         let question = format!("prefix {w} {s} {n} 0 {value} {size}");
-        case("B1", question, format!("0 0 0 0 {size} {}", "FF".repeat(size)))
+        case("B1", question, format!("0 0 0 0 {size} 65535 {}", "FF".repeat(size)))
     };
     let starts = |w: usize, n: usize| (0..=w - n).map(move |s| asked(w, s, n));
     let narrow = (1..=9).flat_map(|w| (1..=w).flat_map(move |n| starts(w, n)));
@@ -91,28 +92,28 @@ fn every_field() -> Vec<Case> {
 fn addresses() -> Vec<Case> {
     let everything = r(&"*".repeat(32), &[]);
     vec![
-        case("B1", "prefix 32 0 32 0 00000000 8", "0 0 0 0 8 FFFFFFFFFFFFFFFF"),
-        case("B1", "prefix 32 0 32 0 - 8", "11 0 0 0 0 -"),
-        case("B1", "prefix 32 0 32 0 0A000000 8", "11 0 0 0 0 -"),
-        case("B1", "prefix 32 0 32 1 00000000 8", "0 0 0 0 8 7FFFFFFFFFFFFFFF"),
-        case("B1", format!("diff_member 32 {everything} C0000201"), "1 0 0 0 0 -"),
-        case("B1", format!("diff_member 32 {everything} 00000000"), "1 0 0 0 0 -"),
+        case("B1", "prefix 32 0 32 0 00000000 8", "0 0 0 0 8 65535 FFFFFFFFFFFFFFFF"),
+        case("B1", "prefix 32 0 32 0 - 8", "11 0 0 0 0 65535 -"),
+        case("B1", "prefix 32 0 32 0 0A000000 8", "11 0 0 0 0 65535 -"),
+        case("B1", "prefix 32 0 32 1 00000000 8", "0 0 0 0 8 65535 7FFFFFFFFFFFFFFF"),
+        case("B1", format!("diff_member 32 {everything} C0000201"), "1 0 0 0 0 0 -"),
+        case("B1", format!("diff_member 32 {everything} 00000000"), "1 0 0 0 0 0 -"),
     ]
 }
 
 /// Each bit of a value for twelve positions set alone, those behind the twelfth too.
 fn every_bit() -> Vec<Case> {
     let asked = |bit: usize| format!("prefix 16 3 12 0 {:04X} 4", 1 << bit);
-    (0..16).map(|bit| case("B1", asked(bit), "11 0 0 0 0 -")).collect()
+    (0..16).map(|bit| case("B1", asked(bit), "11 0 0 0 0 65535 -")).collect()
 }
 
 /// Zero bits in too few bytes, in 40 and in too many, for a field that needs 40.
 fn every_length() -> Vec<Case> {
-    let written = format!("0 0 0 0 80 {}", "FF".repeat(80));
+    let written = format!("0 0 0 0 80 65535 {}", "FF".repeat(80));
     let asked = |size: usize| match size {
         0 => "prefix 320 1 313 0 - 80".to_string(),
         _ => format!("prefix 320 1 313 0 {} 80", "00".repeat(size)),
     };
-    let right = |size| if size == 40 { written.as_str() } else { "11 0 0 0 0 -" };
+    let right = |size| if size == 40 { written.as_str() } else { "11 0 0 0 0 65535 -" };
     (0..=42).map(|size| case("B1", asked(size), right(size))).collect()
 }

@@ -2,7 +2,7 @@
 
 use std::collections::BTreeSet;
 
-use crate::answer::Answer;
+use crate::answer::{index, Answer, NONE_DECIDED};
 use crate::cube::{opposite, Cube};
 use crate::difference::Difference;
 use crate::header::Header;
@@ -29,23 +29,24 @@ impl Allowance {
     }
 }
 
-/// Walks the differences one after another on one allowance, to the first member.
-/// The answer is 1 (empty), 2 with a header, or 3.
-pub fn walk<'a>(differences: impl IntoIterator<Item = &'a Difference>, allowed: u32) -> Answer {
+/// Walks the differences, each with its number, one after another on one allowance, to the first
+/// member. The answer is 1 (empty), 2 with a header, or 3; the last two have the number of the
+/// difference whose member is shown, or whose next visit the allowance cannot pay.
+pub fn walk(differences: impl IntoIterator<Item = (usize, Difference)>, allowed: u32) -> Answer {
     let mut allowance = Allowance { allowed, spent: 0 };
     let mut stop = None;
-    for difference in differences {
+    for (place, difference) in differences {
         if let Err(why) = visit(&difference.base, &difference.cuts, &mut allowance) {
-            stop = Some(why);
+            stop = Some((why, index(place)));
             break;
         }
     }
-    let (number, count, bytes) = match stop {
-        None => (1, allowance.spent, Vec::new()),
-        Some(Stop::Member(header)) => (2, allowance.spent, header.bytes()),
-        Some(Stop::Undecided) => (3, allowed, Vec::new()),
+    let (number, count, bytes, index) = match stop {
+        None => (1, allowance.spent, Vec::new(), NONE_DECIDED),
+        Some((Stop::Member(header), index)) => (2, allowance.spent, header.bytes(), index),
+        Some((Stop::Undecided, index)) => (3, allowed, Vec::new(), index),
     };
-    Answer { number, count, bytes }
+    Answer { number, count, bytes, index }
 }
 
 /// Visits a piece with cuts left. It comes back without a stop if the piece is covered.

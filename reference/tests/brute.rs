@@ -2,6 +2,8 @@
 
 mod common;
 
+use std::slice;
+
 use common::*;
 use reference::answer::Outcome;
 use reference::calls;
@@ -10,6 +12,9 @@ use reference::notation::{bytes, c, f, h, r};
 
 const ROOM: usize = 100_000;
 const ENOUGH: u32 = 1_000_000;
+
+/// The index of an answer that no difference decided.
+const NONE: u16 = 65_535;
 
 fn record((base, cuts): &Drawing) -> Vec<u8> {
     let cuts: Vec<&str> = cuts.iter().map(String::as_str).collect();
@@ -31,7 +36,7 @@ fn number(outcome: Outcome) -> u8 {
 
 fn written(outcome: Outcome) -> Vec<u8> {
     let answer = outcome.unwrap();
-    assert_eq!((answer.number, answer.count), (0, 0));
+    assert_eq!((answer.number, answer.count, answer.index), (0, 0, NONE));
     answer.bytes
 }
 
@@ -63,6 +68,15 @@ fn for_each_w(seed: u64, times: usize, test: impl Fn(&mut Random, usize)) {
     }
 }
 
+/// Holds membership's answer to the differences of which the first that has the header decides.
+fn check_member(header: &str, differences: &[Drawing], given: Outcome) {
+    let given = given.unwrap();
+    let first = differences.iter().position(|difference| in_difference(header, difference));
+    let index = first.map_or(NONE, |first| first as u16);
+    assert_eq!((given.number, given.index), (yes_if(in_region(header, differences)), index));
+    assert_eq!((given.count, given.bytes), (0, Vec::new()));
+}
+
 #[test]
 fn membership() {
     for_each_w(1, 300, |random, w| {
@@ -71,10 +85,9 @@ fn membership() {
         let (record, file) = (record(&difference), file(w, &region));
         for header in headers(w) {
             let lent = bytes(&h(&header));
-            let given = number(calls::diff_member(w as u64, &record, &lent));
-            assert_eq!(given, yes_if(in_difference(&header, &difference)));
-            let given = number(calls::region_member(&file, &lent));
-            assert_eq!(given, yes_if(in_region(&header, &region)));
+            let given = calls::diff_member(w as u64, &record, &lent);
+            check_member(&header, slice::from_ref(&difference), given);
+            check_member(&header, &region, calls::region_member(&file, &lent));
         }
     });
 }
@@ -84,14 +97,14 @@ fn check_cubes(w: usize, a: &str, b: &str) {
     let (first, second) = (bytes(&c(a)), bytes(&c(b)));
     let both = headers_where(w, |header| in_cube(header, a) && in_cube(header, b));
     let meeting = calls::cube_meet(w as u64, &first, &second, ROOM).unwrap();
-    assert_eq!(meeting.number == 2, both.is_empty());
+    assert_eq!((meeting.number == 2, meeting.index), (both.is_empty(), NONE));
     if meeting.number == 0 {
         let met = cubes(w).into_iter().find(|cube| bytes(&c(cube)) == meeting.bytes).unwrap();
         assert_eq!(headers_where(w, |header| in_cube(header, &met)), both);
     }
     let within = |a: &str, b: &str| headers(w).iter().all(|h| !in_cube(h, a) || in_cube(h, b));
-    let given = number(calls::cube_in(w as u64, &first, &second));
-    assert_eq!(given, yes_if(within(a, b)));
+    let given = calls::cube_in(w as u64, &first, &second).unwrap();
+    assert_eq!((given.number, given.index), (yes_if(within(a, b)), NONE));
     let wider = calls::wider(w as u64, &first, &second).unwrap();
     let expected = match (within(b, a), within(a, b)) {
         (true, _) => Some(first.as_slice()),
@@ -164,22 +177,50 @@ fn subtraction() {
     });
 }
 
-/// Holds a walk's answers at all allowances around its count to the headers it may show.
-fn check_walk(shown: &[String], ask: impl Fn(u32) -> Outcome) -> u32 {
+/// A difference or piece with its number.
+type Numbered = (u16, Drawing);
+
+fn numbered(region: &[Drawing]) -> Vec<Numbered> {
+    (0..).zip(region.iter().cloned()).collect()
+}
+
+/// Holds a walk's answers at all allowances around its count to the headers it may show, and to
+/// what is walked: the first that has a header decides, or the first that is not paid in full.
+fn check_walk(shown: &[String], walked: &[Numbered], ask: impl Fn(u32) -> Outcome) -> u32 {
     let full = ask(ENOUGH).unwrap();
     assert_eq!(full.number, yes_if(shown.is_empty()));
-    if full.number == 2 {
-        assert!(shown.iter().any(|header| bytes(&h(header)) == full.bytes));
+    let held = |piece: &Drawing| headers_where(piece.0.len(), |h| in_difference(h, piece));
+    match walked.iter().find(|(_, piece)| !held(piece).is_empty()) {
+        Some((number, piece)) => {
+            assert_eq!((full.number, full.index), (2, *number));
+            let right = |header: &String| bytes(&h(header)) == full.bytes && shown.contains(header);
+            assert!(held(piece).iter().any(right));
+        }
+        None => assert_eq!((full.number, full.index, full.bytes.len()), (1, NONE, 0)),
     }
     for allowance in 0..full.count {
         let answer = ask(allowance).unwrap();
         assert_eq!((answer.number, answer.count), (3, allowance));
         assert!(answer.bytes.is_empty());
+        check_unpaid(walked, answer.index, allowance);
     }
     for allowance in [full.count, full.count + 1, u32::MAX] {
         assert_eq!(ask(allowance).unwrap(), full);
     }
     full.count
+}
+
+/// Holds the index of an undecided answer to what each walk costs by itself: all before it are
+/// paid, and it is not.
+fn check_unpaid(walked: &[Numbered], index: u16, allowance: u32) {
+    let cost = |(_, piece): &Numbered| {
+        let w = piece.0.len() as u64;
+        calls::diff_empty(w, &record(piece), ENOUGH, 1).unwrap().count
+    };
+    let before = walked.iter().filter(|(number, _)| *number < index);
+    let paid: u32 = before.map(cost).sum();
+    let unpaid = walked.iter().find(|(number, _)| *number == index).unwrap();
+    assert!(paid <= allowance && allowance < paid + cost(unpaid));
 }
 
 /// The smaller of the two bounds, from the drawing alone.
@@ -203,10 +244,11 @@ fn emptiness_of_differences_and_the_ceiling() {
         let lent = record(&difference);
         let shown = headers_where(w, |header| in_difference(header, &difference));
         let ask = |allowance| calls::diff_empty(w as u64, &lent, allowance, 1);
-        let count = check_walk(&shown, ask);
+        let count = check_walk(&shown, &numbered(slice::from_ref(&difference)), ask);
         let ceiling = calls::ceiling(w as u64, &lent).unwrap();
         assert!((1..=ceiling.count).contains(&count));
         assert_eq!(u64::from(ceiling.count), smaller_bound(&difference));
+        assert_eq!(ceiling.index, NONE);
     });
 }
 
@@ -216,15 +258,32 @@ fn emptiness_of_regions() {
         let region = random_region(random, w);
         let lent = file(w, &region);
         let shown = headers_where(w, |header| in_region(header, &region));
-        check_walk(&shown, |allowance| calls::region_empty(&lent, allowance, 1));
+        let ask = |allowance| calls::region_empty(&lent, allowance, 1);
+        check_walk(&shown, &numbered(&region), ask);
     });
+}
+
+/// The cube of the headers in both, if there are any.
+fn met(a: &str, b: &str) -> Option<String> {
+    let shared = headers(a.len()).into_iter().any(|h| in_cube(&h, a) && in_cube(&h, b));
+    let narrower = |(x, y)| if x == '*' { y } else { x };
+    shared.then(|| a.chars().zip(b.chars()).map(narrower).collect())
+}
+
+/// The pieces of a less b, numbered with the skipped ones: a with its cuts and b's base, then what
+/// each cut of b gives back.
+fn pieces(a: &Drawing, b: &Drawing) -> Vec<Numbered> {
+    let first = (0, (a.0.clone(), [a.1.clone(), vec![b.0.clone()]].concat()));
+    let given_back =
+        (1..).zip(&b.1).filter_map(|(j, cut)| Some((j, (met(&a.0, cut)?, a.1.clone()))));
+    std::iter::once(first).chain(given_back).collect()
 }
 
 fn check_inclusion(w: usize, a: &Drawing, b: &Drawing) {
     let (first, second) = (record(a), record(b));
     let shown = headers_where(w, |h| in_difference(h, a) && !in_difference(h, b));
     let ask = |allowance| calls::diff_in(w as u64, &first, &second, allowance, 1);
-    check_walk(&shown, ask);
+    check_walk(&shown, &pieces(a, b), ask);
 }
 
 #[test]

@@ -6,6 +6,7 @@ use std::fs;
 use reference::answer::Answer;
 use reference::cases;
 use reference::desk;
+use reference::difference::Difference;
 use reference::notation::{bytes, c, cube, difference, f, r, w1};
 use reference::program::question;
 use reference::tidy::tidy;
@@ -26,7 +27,8 @@ fn every_source_is_there() {
     // A5d and A35 have no line of their own; A36 is about the question program.
     let readings = (1..=34).map(|i| format!("A{i}"));
     let lettered = ["A5b", "A5c", "A6b", "A6c", "A6d", "A8b", "A13b", "A30b"].map(String::from);
-    let requests = ["B70", "B1", "B53"].map(String::from);
+    // B16 is about the question program.
+    let requests = ["B70", "B1", "B53", "B12", "B13", "B14", "B15", "B72"].map(String::from);
     let figures = (1..=10).map(|i| format!("P{i}"));
     for source in readings.chain(lettered).chain(requests).chain(figures) {
         assert!(sources.contains(&source.as_str()), "{source}");
@@ -94,6 +96,15 @@ fn the_question_programs_figure() {
 }
 
 #[test]
+fn b16_the_question_programs_line_has_no_index() {
+    let (covered, free) = (r("1*", &["**"]), r("**", &[]));
+    let line = |records: &[String]| question(&bytes(&f(2, records)));
+    assert_eq!(line(&[covered.clone(), free.clone()]), "member 2 00\n");
+    assert_eq!(line(&[free]), "member 1 00\n");
+    assert_eq!(line(&[covered.clone(), covered]), "empty 2\n");
+}
+
+#[test]
 fn the_question_program_can_be_undecided() {
     // Each of the cuts leaves eight pieces to the next, and nothing survives the last two.
     let apart = |i: usize| "*".repeat(8 * i) + "11111111" + &"*".repeat(8 * (9 - i));
@@ -114,14 +125,19 @@ fn p1_p2_cubes_as_bytes() {
 
 #[test]
 fn p4_to_p7_walks_and_ceilings() {
-    let answer = |number, count, bytes: &[u8]| Answer { number, count, bytes: bytes.to_vec() };
+    let walked = |difference: &Difference, allowance, right: (u8, u32, &[u8], u16)| {
+        let (number, count, bytes, index) = right;
+        let right = Answer { number, count, bytes: bytes.to_vec(), index };
+        assert_eq!(walk::walk([(0, difference.clone())], allowance), right);
+    };
     let p4 = difference("****", &["10**"]);
-    assert_eq!((walk::walk([&p4], 9), walk::ceiling(&p4)), (answer(2, 2, &[0]), 3));
+    walked(&p4, 9, (2, 2, &[0], 0));
     let p5 = difference("**", &["1*", "0*"]);
-    assert_eq!((walk::walk([&p5], 9), walk::ceiling(&p5)), (answer(1, 2, &[]), 3));
-    assert_eq!(walk::walk([&p5], 1), answer(3, 1, &[]));
+    walked(&p5, 9, (1, 2, &[], 65_535));
+    walked(&p5, 1, (3, 1, &[], 0));
     let p7 = difference("**", &["00", "01", "10"]);
-    assert_eq!((walk::walk([&p7], 9), walk::ceiling(&p7)), (answer(2, 3, &[0xC0]), 13));
+    walked(&p7, 9, (2, 3, &[0xC0], 0));
+    assert_eq!([p4, p5, p7].map(|figure| walk::ceiling(&figure)), [3, 3, 13]);
 }
 
 #[test]
@@ -133,5 +149,5 @@ fn p10_a_cut_beside_the_base_is_dropped() {
 fn the_greatest_allowance_is_taken() {
     let p5 = bytes(&r("**", &["1*", "0*"]));
     let answer = calls::diff_empty(2, &p5, u32::MAX, 1).unwrap();
-    assert_eq!((answer.number, answer.count), (1, 2));
+    assert_eq!((answer.number, answer.count, answer.index), (1, 2, 65_535));
 }

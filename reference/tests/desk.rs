@@ -59,8 +59,8 @@ fn rooms_and_allowances() {
 
 #[test]
 fn bytes() {
-    assert_eq!(answer(b"wider 4 9f fF"), "1 0 0 0 0 FF");
-    assert_eq!(answer(b"wider 4 - FF"), "12 1 0 0 0 -");
+    assert_eq!(answer(b"wider 4 9f fF"), "1 0 0 0 0 65535 FF");
+    assert_eq!(answer(b"wider 4 - FF"), "12 1 0 0 0 65535 -");
     for word in ["9", "9FF", "G0", "0x9F", "--", "-9F", "9F-", "9F\u{e9}"] {
         assert!(!readable(&format!("wider 4 {word} FF")), "{word}");
     }
@@ -83,16 +83,16 @@ fn long_lines() {
 fn numbers_of_any_size_are_answered() {
     let most = u64::MAX;
     for (line, right) in [
-        (format!("prefix 8 {most} {most} {most} 00 0"), "21 0 0 0 0 -"),
-        (format!("prefix {most} 0 1 1 00 0"), "10 0 0 0 0 -"),
-        (format!("equal_fields 8 {most} 0 1 0"), "21 0 0 0 0 -"),
-        (format!("equal_fields 8 0 {most} 1 0"), "21 0 0 0 0 -"),
-        (format!("view 040001000400 {most} {most}"), "23 0 0 0 0 - 0"),
+        (format!("prefix 8 {most} {most} {most} 00 0"), "21 0 0 0 0 65535 -"),
+        (format!("prefix {most} 0 1 1 00 0"), "10 0 0 0 0 65535 -"),
+        (format!("equal_fields 8 {most} 0 1 0"), "21 0 0 0 0 65535 -"),
+        (format!("equal_fields 8 0 {most} 1 0"), "21 0 0 0 0 65535 -"),
+        (format!("view 040001000400 {most} {most}"), "23 0 0 0 0 65535 - 0"),
     ] {
         assert_eq!(answer(line.as_bytes()), right);
     }
     let beyond = answer(format!("read_on 040001000400 {most}").as_bytes());
-    assert_eq!(beyond, format!("15 1 {most} 0 0 {most}"));
+    assert_eq!(beyond, format!("15 1 {most} 0 0 65535 {most}"));
 }
 
 #[test]
@@ -104,7 +104,10 @@ fn each_line_has_an_answer() {
     };
     assert_eq!(answers(""), "");
     assert_eq!(answers("\n"), "unreadable\n");
-    assert_eq!(answers("wider 4 FF FF\n"), "1 0 0 0 0 FF\n");
+    assert_eq!(answers("wider 4 FF FF\n"), "1 0 0 0 0 65535 FF\n");
     let last_without_newline = "wider 4 FF FF\n\nwider 0 FF FF";
-    assert_eq!(answers(last_without_newline), "1 0 0 0 0 FF\nunreadable\n10 0 0 0 0 -\n");
+    assert_eq!(
+        answers(last_without_newline),
+        "1 0 0 0 0 65535 FF\nunreadable\n10 0 0 0 0 65535 -\n"
+    );
 }

@@ -4,7 +4,8 @@ use reference::agree::agree;
 use reference::coverage::Coverage;
 use reference::desk::{answer, UNREADABLE};
 use reference::generator::Lines;
-use reference::record::read_single;
+use reference::record::{kind_2, read_single};
+use reference::region::Region;
 use reference::{hex, walk};
 
 const LINES: usize = 3_000;
@@ -75,6 +76,103 @@ fn ceilings_of_either_bound_are_asked() {
         let below = |count: u32| count > 1 << 28 && count < u32::MAX;
         assert!(asked.iter().any(|&[first, second, _]| below(first) && second == u32::MAX));
         assert!(asked.iter().any(|&[first, second, _]| below(second) && first == u32::MAX));
+    }
+}
+
+/// The call of a line, and the number and the index of its answer.
+fn decided(line: &str) -> Option<(&str, u8, u16)> {
+    let answer = answer(line.as_bytes());
+    let mut parts = answer.split(' ');
+    let number = parts.next()?.parse().ok()?;
+    Some((line.split(' ').next()?, number, parts.nth(4)?.parse().ok()?))
+}
+
+#[test]
+fn every_sort_of_index_is_asked() {
+    for seed in [1, 2, 3] {
+        let lines = lines(seed, LINES);
+        let given: Vec<_> = lines.iter().filter_map(|line| decided(line)).collect();
+        let seen = |name: &str, number: u8, least: u16, most: u16| {
+            let wanted = |&(call, told, index): &(&str, u8, u16)| {
+                call == name && told == number && (least..=most).contains(&index)
+            };
+            assert!(given.iter().any(wanted), "seed {seed}: {name} {number}, {least} to {most}");
+        };
+        for name in ["diff_member", "region_member"] {
+            seen(name, 1, 0, 0);
+            seen(name, 2, 65_535, 65_535);
+        }
+        seen("region_member", 1, 1, 9);
+        seen("region_member", 1, 201, 255);
+        for name in ["diff_empty", "region_empty", "diff_in"] {
+            seen(name, 1, 65_535, 65_535);
+            for number in [2, 3] {
+                seen(name, number, 0, 0);
+            }
+        }
+        for number in [2, 3] {
+            seen("region_empty", number, 1, 9);
+            seen("region_empty", number, 201, 255);
+            seen("diff_in", number, 2, 9);
+            seen("diff_in", number, 51, 64);
+        }
+    }
+}
+
+#[test]
+fn only_these_answers_have_an_index() {
+    for line in lines(1, LINES) {
+        let Some((name, number, index)) = decided(&line) else { continue };
+        let decides = match name {
+            "diff_member" | "region_member" => number == 1,
+            "diff_empty" | "region_empty" | "diff_in" => number == 2 || number == 3,
+            _ => false,
+        };
+        assert_eq!(index != 65_535, decides, "{name} {number} {index}");
+    }
+}
+
+/// The line of a walk without the difference of this index and those after it, or without the cuts
+/// that this piece and those after it are of.
+fn front(line: &str, index: usize) -> Option<String> {
+    let words: Vec<&str> = line.split(' ').collect();
+    match words[..] {
+        ["region_empty", file, allowance, room] => {
+            let mut region = Region::read(1, &hex::read(file.as_bytes())?).ok()?;
+            region.differences.truncate(index);
+            Some(format!("region_empty {} {allowance} {room}", hex::capital(&region.file())))
+        }
+        ["diff_in", w, first, second, allowance, room] => {
+            let mut second = read_single(w.parse().ok()?, &hex::read(second.as_bytes())?).ok()?;
+            second.cuts.truncate(index.checked_sub(1)?);
+            let second = hex::capital(&kind_2(&second));
+            Some(format!("diff_in {w} {first} {second} {allowance} {room}"))
+        }
+        _ => None,
+    }
+}
+
+/// The call and the index of a line whose allowance ends exactly before what decides.
+fn ends_between(line: &str) -> Option<(&str, u16)> {
+    let (name, 3, index) = decided(line)? else { return None };
+    let before = answer(front(line, usize::from(index))?.as_bytes());
+    let allowance: u32 = line.split(' ').rev().nth(1)?.parse().ok()?;
+    (before == format!("1 0 0 {allowance} 0 65535 -")).then_some((name, index))
+}
+
+#[test]
+fn allowances_end_between_differences_and_pieces() {
+    for seed in [1, 2, 3] {
+        let lines = lines(seed, LINES);
+        let ends: Vec<_> = lines.iter().filter_map(|line| ends_between(line)).collect();
+        let seen = |name: &str, least: u16| {
+            let late = |&(call, index): &(&str, u16)| call == name && index >= least;
+            assert!(ends.iter().any(late), "seed {seed}: {name}, {least} or later");
+        };
+        seen("region_empty", 1);
+        seen("region_empty", 201);
+        seen("diff_in", 2);
+        seen("diff_in", 51);
     }
 }
 

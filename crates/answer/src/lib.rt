@@ -1,7 +1,7 @@
-// The result of every call, by value, with the five parts of FORMAT 26. It is made only by the functions below, which
+// The result of every call, by value, with the six parts of FORMAT 26. It is made only by the functions below, which
 // have the same names in specs/, so that a part can be added here and nowhere else.
 ghost use mathlib.Core.Path.{_≡_};
-ghost use Rattle.answer.specs.Answer.{accepted, yes, no, refused, fault, counted, showing, wrote, placed};
+ghost use Rattle.answer.specs.Answer.{accepted, yes, no, holding, refused, fault, counted, undecided, showing, wrote, placed};
 
 #[repr(C)]
 pub struct Answer {
@@ -10,7 +10,11 @@ pub struct Answer {
     pub offset: usize,
     pub count: u32,
     pub written: usize,
+    pub index: u16,
 }
+
+// The index where no difference decided.
+const NO_DIFFERENCE: u16 = 65535;
 
 impl Answer {
     // No refusal: what the tests of an operand give where none of them holds.
@@ -23,6 +27,7 @@ impl Answer {
             offset: 0,
             count: 0,
             written: 0,
+            index: NO_DIFFERENCE,
         }
     }
 
@@ -36,6 +41,7 @@ impl Answer {
             offset: 0,
             count: 0,
             written: 0,
+            index: NO_DIFFERENCE,
         }
     }
 
@@ -49,6 +55,21 @@ impl Answer {
             offset: 0,
             count: 0,
             written: 0,
+            index: NO_DIFFERENCE,
+        }
+    }
+
+    // Yes, to membership: the first difference that holds the header.
+    pub fn holding(index: u16) -> Answer
+        ensures { λ r. ⌜ r ≡ holding index ⌝ }
+    {
+        Answer {
+            number: 1,
+            operand: 0,
+            offset: 0,
+            count: 0,
+            written: 0,
+            index,
         }
     }
 
@@ -62,6 +83,7 @@ impl Answer {
             offset: 0,
             count: 0,
             written: 0,
+            index: NO_DIFFERENCE,
         }
     }
 
@@ -75,10 +97,11 @@ impl Answer {
             offset,
             count: 0,
             written: 0,
+            index: NO_DIFFERENCE,
         }
     }
 
-    // An answer of a walk that shows no header, or the ceiling, with its count.
+    // A walk's yes, or the ceiling, with its count.
     pub fn counted(number: u8, count: u32) -> Answer
         ensures { λ r. ⌜ r ≡ counted number count ⌝ }
     {
@@ -88,12 +111,27 @@ impl Answer {
             offset: 0,
             count,
             written: 0,
+            index: NO_DIFFERENCE,
         }
     }
 
-    // A walk's no, with its count and the bytes of the header that it shows.
-    pub fn showing(count: u32, written: usize) -> Answer
-        ensures { λ r. ⌜ r ≡ showing count written ⌝ }
+    // Undecided, with its count and the difference whose next visit the allowance does not pay for.
+    pub fn undecided(count: u32, index: u16) -> Answer
+        ensures { λ r. ⌜ r ≡ undecided count index ⌝ }
+    {
+        Answer {
+            number: 3,
+            operand: 0,
+            offset: 0,
+            count,
+            written: 0,
+            index,
+        }
+    }
+
+    // A walk's no, with its count, the bytes of the header that it shows, and the difference that it is in.
+    pub fn showing(count: u32, written: usize, index: u16) -> Answer
+        ensures { λ r. ⌜ r ≡ showing count written index ⌝ }
     {
         Answer {
             number: 2,
@@ -101,6 +139,7 @@ impl Answer {
             offset: 0,
             count,
             written,
+            index,
         }
     }
 
@@ -114,6 +153,7 @@ impl Answer {
             offset: 0,
             count: 0,
             written,
+            index: NO_DIFFERENCE,
         }
     }
 
@@ -127,6 +167,7 @@ impl Answer {
             offset,
             count: 0,
             written: 0,
+            index: NO_DIFFERENCE,
         }
     }
 }

@@ -16,7 +16,7 @@ fn put_unreadable(text: &mut [u8], held: usize) -> usize {
     put_all(text, held, b"unreadable\n")
 }
 
-// The five parts of a result, with a space behind each.
+// The six parts of a result, with a space behind each.
 fn put_answer(text: &mut [u8], held: usize, r: Answer) -> usize {
     let parts = [
         r.number as u64,
@@ -24,6 +24,7 @@ fn put_answer(text: &mut [u8], held: usize, r: Answer) -> usize {
         r.offset as u64,
         r.count as u64,
         r.written as u64,
+        r.index as u64,
     ];
     put_numbers(text, held, &parts)
 }

@@ -1,27 +1,29 @@
 -- The calls that answer yes or no of a header or of two cubes, and what each answer tells of the headers.
---   diff-member-yes, diff-member-no, region-member-yes, region-member-no    whether a header is in a difference, in a region
+--   diff-member-yes, diff-member-no, region-member-yes, region-member-no    whether a header is in a difference, in a region, and the first
+--                              difference that it is in
 --   cube-in-yes, cube-in-no    the first cube is inside the second, or a header shows that it is not
 --   wider-first, wider-second  the cube handed back holds the other
 --   wider-number-yes, wider-number-no    one of the two cubes holds the other, or headers show that neither does
 --   cube-meet-no               cubes that do not meet have no header in common
 use Prim.Native.Nat.{ℕ, _<_}
 use native.Mathlib.Omega.{arith}
-use mathlib.Core.Path.{_≡_, refl, ap, _∙_}
-use mathlib.Core.List.{List}
+use mathlib.Core.Path.{_≡_, refl, sym, ap, _∙_}
+use mathlib.Core.List.{List, [], _∷_}
 use mathlib.Core.Logic.{_⊎_, inl, inr}
-use mathlib.Core.Bool.{Bool, true, false, not, _&&_, _||_}
+use mathlib.Core.Bool.{Bool, true, false, cond, not, _&&_, _||_}
 use borrow.Author.Tests.{not-true}
 use Rattle.model.specs.Cube.{Header, holds, meet, shares, within}
-use Rattle.model.specs.Difference.{inDifference, inRegion, firstHolder, isHeld}
+use Rattle.model.specs.Difference.{inDifference, inRegion, Holder, unheld, held, firstHolder, isHeld}
+use Rattle.model.specs.Index.{FirstIn}
 use Rattle.model.proofs.Bools.{or-none}
-use Rattle.model.proofs.Holding.{held-in}
+use Rattle.model.proofs.Holding.{held-in, held-first}
 use Rattle.model.proofs.Cubes.{apart-none, within-in, within-out}
-use Rattle.answer.specs.Answer.{no}
+use Rattle.answer.specs.Answer.{noDifference, no}
 use Rattle.format.specs.Rows.{last, row, so, outcome}
 use Rattle.format.specs.Bytes.{readHeader, readCube, writeCube, lentFault}
 use Rattle.format.specs.Records.{widthOf, differenceAt}
 use Rattle.format.specs.Files.{regionIn}
-use Rattle.format.specs.Told.{Told, silent, wide, lentCube, lentRecord, lentFile, lentHeader, yesOr, writing}
+use Rattle.format.specs.Told.{Told, silent, wide, lentCube, lentRecord, lentFile, lentHeader, yesOr, belonging, writing}
 use Rattle.format.specs.Calls.{cube-meet, cube-in, first, second, neither, wider, wider-number, diff-member, region-member}
 use Rattle.format.specs.Meaning.{Inside, Outside}
 use Rattle.format.proofs.Reached.{each, past}
@@ -38,34 +40,73 @@ module _ (b : Bool) (x : Told) (e : x .answer .number < 10 → x ≡ outcome (ye
   no-false n =
       each (λ y. y .answer .number ≡ 2 → b ≡ false) (yesOr b) (λ t z. absurd (omega arith), λ f z. f) (rw (e (omega arith)) at n)
 
+-- a table that ends in the first holder
+module _ (k : Holder) (x : Told) (e : x .answer .number < 10 → x ≡ belonging k) where
+  held-yes : x .answer .number ≡ 1 → k ≡ held (x .answer .index)
+  held-yes n = go k (e (omega arith))
+    where
+      go : (k : Holder) → x ≡ belonging k → k ≡ held (x .answer .index)
+      go unheld f = absurd (omega (arith, ap (λ (y : Told). y .answer .number) f))
+      go (held i) f = ap held (sym (ap (λ (y : Told). y .answer .index) f))
+
+  held-no : x .answer .number ≡ 2 → (k ≡ unheld) × (x .answer .index ≡ noDifference)
+  held-no n = go k (e (omega arith))
+    where
+      go : (k : Holder) → x ≡ belonging k → (k ≡ unheld) × (x .answer .index ≡ noDifference)
+      go unheld f = (refl, ap (λ (y : Told). y .answer .index) f)
+      go (held i) f = absurd (omega (arith, ap (λ (y : Told). y .answer .number) f))
+
 -- a header
 module _ (w : ℕ) (s h : List ℕ) where
-  diff-member-test : diff-member w s h .answer .number < 10 → diff-member w s h ≡ outcome (yesOr (inDifference (differenceAt w s 0) (readHeader w h)))
-  unfolding diff-member outcome
+  abbrev one-holder : Holder
+  one-holder = firstHolder (differenceAt w s 0 ∷ []) (readHeader w h)
+
+  diff-member-test : diff-member w s h .answer .number < 10 → diff-member w s h ≡ belonging one-holder
+  unfolding diff-member
   diff-member-test l =
-      let k = wide w (lentRecord w s 1 (lentHeader w h (last (outcome (yesOr (inDifference (differenceAt w s 0) (readHeader w h))))))) in
+      let k = wide w (lentRecord w s 1 (lentHeader w h (last (belonging one-holder)))) in
       past (λ x. x .answer .number < 10) k (omega (arith, record-refusal w s true 0 0)) l .1 .1 .1 .1 .1
 
-  pub diff-member-yes : diff-member w s h .answer .number ≡ 1 → inDifference (differenceAt w s 0) (readHeader w h) ≡ true
-  diff-member-yes = yes-true _ _ diff-member-test
+  pub diff-member-yes : diff-member w s h .answer .number ≡ 1
+      → (inDifference (differenceAt w s 0) (readHeader w h) ≡ true) × (diff-member w s h .answer .index ≡ 0)
+  diff-member-yes n = go (inDifference (differenceAt w s 0) (readHeader w h)) (held-yes one-holder _ diff-member-test n)
+    where
+      go : (b : Bool) → cond b (held 0) unheld ≡ held (diff-member w s h .answer .index) → (b ≡ true) × (diff-member w s h .answer .index ≡ 0)
+      go true f = (refl, cc)
+      go false f = let z : _≡_ {A = ℕ} 0 1 = cc in absurd (omega arith)
 
-  pub diff-member-no : diff-member w s h .answer .number ≡ 2 → inDifference (differenceAt w s 0) (readHeader w h) ≡ false
-  diff-member-no = no-false _ _ diff-member-test
+  pub diff-member-no : diff-member w s h .answer .number ≡ 2
+      → (inDifference (differenceAt w s 0) (readHeader w h) ≡ false) × (diff-member w s h .answer .index ≡ noDifference)
+  diff-member-no n =
+      let (none, index) = held-no one-holder _ diff-member-test n in
+      (go (inDifference (differenceAt w s 0) (readHeader w h)) none, index)
+    where
+      go : (b : Bool) → cond b (held 0) unheld ≡ unheld → b ≡ false
+      go true f = let z : _≡_ {A = ℕ} 0 1 = cc in absurd (omega arith)
+      go false f = refl
 
 module _ (s h : List ℕ) where
-  region-member-test : region-member s h .answer .number < 10 → region-member s h ≡ outcome (yesOr (inRegion (regionIn s) (readHeader (widthOf s) h)))
-  unfolding region-member outcome
+  abbrev holder : Holder
+  holder = firstHolder (regionIn s) (readHeader (widthOf s) h)
+
+  region-member-test : region-member s h .answer .number < 10 → region-member s h ≡ belonging holder
+  unfolding region-member
   region-member-test l =
-      let x = firstHolder (regionIn s) (readHeader (widthOf s) h) in
-      let k = lentFile s 1 (lentHeader (widthOf s) h (last (outcome (yesOr (isHeld x))))) in
+      let k = lentFile s 1 (lentHeader (widthOf s) h (last (belonging holder))) in
       past (λ x. x .answer .number < 10) k (omega (arith, file-refusal s)) l .1 .1 .1
-      ∙ ap (λ (b : Bool). outcome (yesOr b)) (held-in (regionIn s) (readHeader (widthOf s) h))
 
-  pub region-member-yes : region-member s h .answer .number ≡ 1 → inRegion (regionIn s) (readHeader (widthOf s) h) ≡ true
-  region-member-yes = yes-true _ _ region-member-test
+  pub region-member-yes : region-member s h .answer .number ≡ 1
+      → (inRegion (regionIn s) (readHeader (widthOf s) h) ≡ true)
+      × FirstIn (regionIn s) (readHeader (widthOf s) h) (region-member s h .answer .index)
+  region-member-yes n =
+      let f = held-yes holder _ region-member-test n in
+      (sym (held-in (regionIn s) (readHeader (widthOf s) h)) ∙ ap isHeld f, held-first (regionIn s) (readHeader (widthOf s) h) _ f)
 
-  pub region-member-no : region-member s h .answer .number ≡ 2 → inRegion (regionIn s) (readHeader (widthOf s) h) ≡ false
-  region-member-no = no-false _ _ region-member-test
+  pub region-member-no : region-member s h .answer .number ≡ 2
+      → (inRegion (regionIn s) (readHeader (widthOf s) h) ≡ false) × (region-member s h .answer .index ≡ noDifference)
+  region-member-no n =
+      let (none, index) = held-no holder _ region-member-test n in
+      (sym (held-in (regionIn s) (readHeader (widthOf s) h)) ∙ ap isHeld none, index)
 
 -- two cubes
 module _ (w : ℕ) (a b : List ℕ) where

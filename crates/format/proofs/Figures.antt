@@ -9,7 +9,7 @@ use Rattle.model.specs.Algebra.{intersection, restored}
 use Rattle.model.specs.Fields.{unequal, equalFields}
 use Rattle.model.specs.Walk.{visit, decide}
 use Rattle.model.specs.Ceiling.{frees, ceilingFrom, meeting, mark, matters, marks}
-use Rattle.answer.specs.Answer.{fault, counted, showing, wrote}
+use Rattle.answer.specs.Answer.{fault, counted, undecided, showing, wrote}
 use Rattle.format.specs.Rows.{passes, outcome}
 use Rattle.format.specs.Bytes.{readHeader, headerBytes, readCube, cubeBytes, writeCube, cubeFault, lentFault}
 use Rattle.format.specs.Records.{countAt, frontLen, baseAt, cubeAt, cubesAt, cubesFault, widthFault, differenceFault}
@@ -25,15 +25,15 @@ pub figures :
     -- P3: W 2, 00 as a byte with unused places 0 is refused 14
     × (cube-in 2 (0x50 ∷ []) (0x5F ∷ []) ≡ silent (fault 14 1 0))
     -- P4: W 4, base ****, cut 10**: member 0000, count 2, ceiling 3
-    × (diff-empty 4 (5 ∷ 0 ∷ 2 ∷ 0 ∷ 1 ∷ 0xFF ∷ 0x9F ∷ []) 9 1 ≡ record { answer = showing 2 1; bytes = 0 ∷ [] })
+    × (diff-empty 4 (5 ∷ 0 ∷ 2 ∷ 0 ∷ 1 ∷ 0xFF ∷ 0x9F ∷ []) 9 1 ≡ record { answer = showing 2 1 0; bytes = 0 ∷ [] })
     × (ceiling-of 4 (5 ∷ 0 ∷ 2 ∷ 0 ∷ 1 ∷ 0xFF ∷ 0x9F ∷ []) ≡ silent (counted 0 3))
     -- P5: W 2, base **, cuts 1*, 0*: empty, count 2, ceiling 3
     × (diff-empty 2 (6 ∷ 0 ∷ 2 ∷ 0 ∷ 2 ∷ 0xFF ∷ 0xBF ∷ 0x7F ∷ []) 2 1 ≡ silent (counted 1 2))
     × (ceiling-of 2 (6 ∷ 0 ∷ 2 ∷ 0 ∷ 2 ∷ 0xFF ∷ 0xBF ∷ 0x7F ∷ []) ≡ silent (counted 0 3))
     -- P6: allowance 1 gives undecided, count 1
-    × (diff-empty 2 (6 ∷ 0 ∷ 2 ∷ 0 ∷ 2 ∷ 0xFF ∷ 0xBF ∷ 0x7F ∷ []) 1 1 ≡ silent (counted 3 1))
+    × (diff-empty 2 (6 ∷ 0 ∷ 2 ∷ 0 ∷ 2 ∷ 0xFF ∷ 0xBF ∷ 0x7F ∷ []) 1 1 ≡ silent (undecided 1 0))
     -- P7: W 2, base **, cuts 00, 01, 10: member 11, count 3, ceiling 13
-    × (diff-empty 2 (7 ∷ 0 ∷ 2 ∷ 0 ∷ 3 ∷ 0xFF ∷ 0x5F ∷ 0x6F ∷ 0x9F ∷ []) 9 1 ≡ record { answer = showing 3 1; bytes = 0xC0 ∷ [] })
+    × (diff-empty 2 (7 ∷ 0 ∷ 2 ∷ 0 ∷ 3 ∷ 0xFF ∷ 0x5F ∷ 0x6F ∷ 0x9F ∷ []) 9 1 ≡ record { answer = showing 3 1 0; bytes = 0xC0 ∷ [] })
     × (ceiling-of 2 (7 ∷ 0 ∷ 2 ∷ 0 ∷ 3 ∷ 0xFF ∷ 0x5F ∷ 0x6F ∷ 0x9F ∷ []) ≡ silent (counted 0 13))
     -- P8: W 2, ** less (1* less 11)
     × (diff-less 2 (4 ∷ 0 ∷ 2 ∷ 0 ∷ 0 ∷ 0xFF ∷ []) (5 ∷ 0 ∷ 2 ∷ 0 ∷ 1 ∷ 0xBF ∷ 0xAF ∷ []) 19

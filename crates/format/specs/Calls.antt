@@ -19,12 +19,12 @@
 --   read-on                             == one step of reading on, and the next place
 --   question                            == what the question program tells of its input
 use Prim.Native.Nat.{ℕ, _+_, _*_}
-use mathlib.Core.List.{List, map}
+use mathlib.Core.List.{List, [], _∷_, map}
 use mathlib.Core.Bool.{false, not, cond, _||_}
 use lib.Dec.{eqb}
 use lib.ListN.{length, getD}
 use Rattle.model.specs.Cube.{meet, shares, within}
-use Rattle.model.specs.Difference.{inDifference, firstHolder, isHeld}
+use Rattle.model.specs.Difference.{firstHolder}
 use Rattle.model.specs.Tidy.{tidyRegion}
 use Rattle.model.specs.Algebra.{intersection, intersections, subtraction, subtractions}
 use Rattle.model.specs.Fields.{prefixCube, equalFields}
@@ -38,7 +38,7 @@ use Rattle.format.specs.Bytes.{cubeLen, bits, readHeader, readCube, writ
 use Rattle.format.specs.Records.{countAt, baseAt, nextAt, widthOf, firstAt, widthFault, differenceAt, differenceFault, differenceBytes}
 use Rattle.format.specs.Files.{readFile, faultNumber, faultOffset, offsets, regionIn}
 use Rattle.format.specs.Told.{Told, silent, twoCubes, wide, lentCube, lentRecord, lentFile, lentBits, lentHeader}
-use Rattle.format.specs.Told.{yesOr, writing, writingRegion, walking}
+use Rattle.format.specs.Told.{yesOr, belonging, writing, writingRegion, walking}
 
 -- What each operation takes is FORMAT 64; which operand is which, 66.
 
@@ -87,22 +87,22 @@ wider-number w a b =
 
 -- membership; the C host asks region-member and region-empty (FORMAT 100)
 
--- FORMAT 7, 64
+-- FORMAT 7, 64; as the region of that one difference (FORMAT 154)
 unfoldable pub diff-member : ℕ → List ℕ → List ℕ → Told
 diff-member w s h =
     outcome
     (wide w
     (lentRecord w s 1
     (lentHeader w h
-    (yesOr (inDifference (differenceAt w s 0) (readHeader w h))))))
+    (last (belonging (firstHolder (differenceAt w s 0 ∷ []) (readHeader w h)))))))
 
--- FORMAT 9, 64, 65, 100: some difference holds the header, and one of them is the first
+-- FORMAT 9, 64, 65, 100, 151
 unfoldable pub region-member : List ℕ → List ℕ → Told
 region-member s h =
     outcome
     (lentFile s 1
     (lentHeader (widthOf s) h
-    (yesOr (isHeld (firstHolder (regionIn s) (readHeader (widthOf s) h))))))
+    (last (belonging (firstHolder (regionIn s) (readHeader (widthOf s) h))))))
 
 -- what writes region files, tidied (FORMAT 71)
 
@@ -150,7 +150,7 @@ region-less s t room =
 
 -- the walk
 
--- FORMAT 64
+-- FORMAT 64; the one difference has the index 0 (FORMAT 154)
 unfoldable pub diff-empty : ℕ → List ℕ → ℕ → ℕ → Told
 diff-empty w s n room =
     outcome
@@ -158,14 +158,14 @@ diff-empty w s n room =
     (lentRecord w s 1
     (walking w n room 0 (walk (differenceAt w s 0)))))
 
--- FORMAT 64, 100
+-- FORMAT 64, 100, 152
 unfoldable pub region-empty : List ℕ → ℕ → ℕ → Told
 region-empty s n room =
     outcome
     (lentFile s 1
     (walking (widthOf s) n room (stop n (map walk (regionIn s))) (walkRegion (regionIn s))))
 
--- FORMAT 64, 66, 114; a piece with 65 cuts is not refused (FORMAT 115)
+-- FORMAT 64, 66, 114, 153; a piece with 65 cuts is not refused (FORMAT 115)
 unfoldable pub diff-in : ℕ → List ℕ → List ℕ → ℕ → ℕ → Told
 diff-in w s t n room =
     let a = differenceAt w s 0 in

@@ -4,7 +4,6 @@
 --   Written w r bs           == the bytes bs are an accepted file of width w that holds the region r
 --   WrittenCube w c bs       == the bytes bs are accepted as a lent cube of w positions, and it is c
 --   Shown w In x             == the bytes that x writes are a header of w positions that In holds of
---   differenceOf r d         == the difference of index d in the region r
 --   cubesOf d                == the cubes of the difference d by index; 0 is the base
 --   Seen s d i v             == the stretch v of the file s is the cube of index i in its difference of index d
 --   Onward s place x         == the step x from a place gives the accepted record there, and the next place is that record's end
@@ -14,7 +13,8 @@ use mathlib.Core.List.{List, [], _∷_}
 use mathlib.Core.Bool.{Bool, true, false}
 use lib.ListN.{length, getD, take, drop}
 use Rattle.model.specs.Cube.{Header, Cube, holds}
-use Rattle.model.specs.Difference.{Difference, less, Region}
+use Rattle.model.specs.Difference.{Difference, Region}
+use Rattle.model.specs.Index.{differenceOf}
 use Rattle.format.specs.Limits.{widest}
 use Rattle.format.specs.Bytes.{Bytes, headerLen, cubeLen, bits, anyBit, readHeader, readCube, cubeFault, lentFault}
 use Rattle.format.specs.Records.{nextAt, widthOf, widthFault, differenceFault}
@@ -53,9 +53,6 @@ pub record Shown (w : ℕ) (In : Header → Bool) (x : Told) : Type 0 where
   pub clear : anyBit (drop w (bits (x .bytes))) ≡ false
   pub wide : length (readHeader w (x .bytes)) ≡ w
   pub inside : In (readHeader w (x .bytes)) ≡ true
-
-abbrev pub differenceOf : Region → ℕ → Difference
-differenceOf r d = getD r d (less [] [])
 
 abbrev pub cubesOf : Difference → List Cube
 cubesOf d = d .base ∷ d .cuts

@@ -10,11 +10,12 @@
 --   wide, lentCube, lentRecord, lentFile, lentBits == the table k, after such tests
 --   lentHeader w h k == the table k, after the tests of a header of w positions
 --   yesOr b         == yes where b is true, else no
+--   belonging x     == what the first difference that holds a header tells: yes with its index, or no where there is none
 --   writing bs room == the bytes bs are to be written into a buffer of that room
 --   anyLong r       == some difference of r has more cuts than may be written
 --   writingFile r bs room  == the region r is to be written, as the bytes bs
 --   writingRegion w r room == the tidied region r is to be written
---   deciding w d           == what the decision d of a walk tells, with the header that it shows
+--   deciding w d           == what the decision d of a walk tells, with the index of what decided and the header that it shows
 --   walking w n room i v   == the walk v, which stops at the index i, is answered with the allowance n, into a header buffer of that room
 use Prim.Native.Nat.{ℕ}
 use mathlib.Core.Path.{_≡_}
@@ -23,10 +24,11 @@ use mathlib.Core.Bool.{Bool, true, false, _||_}
 use lib.Dec.{ltb}
 use lib.ListN.{length, drop}
 use Rattle.model.specs.Cube.{shown}
-use Rattle.model.specs.Difference.{Region}
+use Rattle.model.specs.Difference.{Region, Holder, unheld, held}
 use Rattle.model.specs.Walk.{Found, Decision, undecided, empty, member, decide}
 use Rattle.answer.specs.declared.Answer.{Answer}
-use Rattle.answer.specs.Answer.{accepted, yes, no, refused, fault, counted, showing, wrote}
+use Rattle.answer.specs.Answer as forms
+use Rattle.answer.specs.Answer.{accepted, yes, no, holding, refused, fault, counted, showing, wrote}
 use Rattle.format.specs.Rows.{Rows, last, row, onto, then, below, is, isnt, so}
 use Rattle.format.specs.Limits.{widest, mostCuts, mostDifferences}
 use Rattle.format.specs.Bytes.{headerLen, bits, anyBit, writeHeader, lentFault}
@@ -119,6 +121,11 @@ yesOr b =
     row (so b) (silent yes)
     (last (silent no))
 
+-- FORMAT 33, 151
+abbrev pub belonging : Holder → Told
+belonging unheld = silent no
+belonging (held i) = silent (holding i)
+
 -- FORMAT 32, 47
 abbrev pub writing : List ℕ → ℕ → Rows Told
 writing bs room =
@@ -140,11 +147,11 @@ writingFile r bs room =
 abbrev pub writingRegion : ℕ → Region → ℕ → Rows Told
 writingRegion w r room = writingFile r (fileBytes w r) room
 
--- FORMAT 33, 34, 50, 51
+-- FORMAT 33, 34, 50, 51, 152
 abbrev pub deciding : ℕ → Decision → Told
-deciding w (undecided n i) = silent (counted 3 n)
+deciding w (undecided n i) = silent (forms.undecided n i)
 deciding w (empty n) = silent (counted 1 n)
-deciding w (member n i p) = record { answer = showing n (headerLen w); bytes = writeHeader (shown p) }
+deciding w (member n i p) = record { answer = showing n (headerLen w) i; bytes = writeHeader (shown p) }
 
 -- FORMAT 47, 62
 abbrev pub walking : ℕ → ℕ → ℕ → ℕ → Found → Rows Told

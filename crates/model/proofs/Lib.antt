@@ -13,6 +13,7 @@ pub mod Holding
 pub mod Stopping
 pub mod Walking
 pub mod Including
+pub mod Indexing
 pub mod Ceilings
 pub mod Spread
 pub mod Bound

@@ -6,6 +6,7 @@ pub mod Tidy
 pub mod Algebra
 pub mod Fields
 pub mod Walk
+pub mod Index
 pub mod Ceiling
 pub mod Alike
 pub mod Padding

@@ -2,7 +2,8 @@
 --
 -- Who believes these words and reads this page with the files below it knows what is proved; each word stands in a file of specs that opens with its
 -- glossary:
---   model/specs              headers, cubes, differences, regions (Header, holds, inDifference, inRegion), the operations, the walk, its ceiling
+--   model/specs              headers, cubes, differences, regions (Header, holds, inDifference, inRegion), the operations, the walk, its ceiling,
+--                            which difference decides (FirstIn, Passed, Unpaid)
 --   format/specs             what the bytes say (Bytes, Records, Files), a table of tests (Rows), what is told (Told), each call's definition (Calls),
 --                            what answers mean (Meaning: Lent, Inside, Outside, Written, WrittenCube, Shown, Seen, Onward)
 --   region/specs/Stepping    some steps of reading on and of a reader (answers, told), and the records before an offset (recordsBefore)
@@ -65,7 +66,7 @@ pub use Rattle.model.proofs.Including.{inclusion-nothing, inclusion-survivor}
 -- which difference is the first that holds a header, and at which difference or piece a walk stops;
 pub use Rattle.model.proofs.Holding.{held-in, held-first}
 pub use Rattle.model.proofs.Including.{less-in-turn}
-pub use Rattle.model.proofs.Stopping.{region-in-turn, stopped-member, stopped-undecided, stopped-empty}
+pub use Rattle.model.proofs.Stopping.{region-in-turn, stopped-before, stopped-member, stopped-undecided, stopped-empty, unpaid-one}
 -- how many pieces there are, at most 1 + k * 2^s of every difference; what counts for the ceiling (FORMAT 117), and what an allowance makes of them.
 pub use Rattle.model.proofs.Walking.{walk-positive}
 pub use Rattle.model.proofs.Spread.{pieces-at-most-over}
@@ -118,4 +119,5 @@ header-position = bit-at
 
 -- DEMAND 3 (FORMAT 121). Where the allowance is enough, emptiness says yes exactly where no header is in, and else
 -- shows one. It is undecided exactly where the walk has more pieces than the allowance. The count is of that walk's
--- pieces, and the ceiling bounds it. Of each call that walks: f-decides, and in Walks the ceilings.
+-- pieces, and the ceiling bounds it. The index is that of the difference or piece that decided (FORMAT 152, 153). Of
+-- each call that walks: f-decides, and in Walks the ceilings.

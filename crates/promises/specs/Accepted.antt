@@ -1,6 +1,7 @@
 -- Where a call is answered: what it accepts.
 --   Tells Ok y x             == x, told by a call, is no refusal exactly where Ok holds, and is then y
 --   yesNo b, writes bs       == yes where b is true, else no; the bytes bs, written
+--   oneHolds b               == yes, by the one difference that is lent, where b is true, else no
 --   Cubes w a b              == W is in its bounds, and both lent cubes are accepted
 --   Bits n used bs           == bs are the bytes of n positions, and no bit is set after the first `used`
 --   Accepted s               == the region file s is accepted
@@ -15,13 +16,13 @@ use mathlib.Core.List.{List}
 use mathlib.Core.Bool.{Bool, false, cond}
 use lib.ListN.{length, drop}
 use Rattle.model.specs.Difference.{Region}
-use Rattle.answer.specs.Answer.{yes, no, wrote}
+use Rattle.model.specs.Index.{differenceOf}
+use Rattle.answer.specs.Answer.{yes, no, holding, wrote}
 use Rattle.format.specs.Limits.{widest, mostDifferences}
 use Rattle.format.specs.Bytes.{headerLen, bits, anyBit, lentFault}
 use Rattle.format.specs.Records.{fileBytes}
 use Rattle.format.specs.Files.{readFile, faultNumber, regionIn}
 use Rattle.format.specs.Told.{Told, silent, anyLong}
-use Rattle.format.specs.Meaning.{differenceOf}
 
 pub record Tells (Ok : Type 0) (y x : Told) : Type 0 where
   pub accepted : x .answer .number < 10 → Ok
@@ -29,6 +30,9 @@ pub record Tells (Ok : Type 0) (y x : Told) : Type 0 where
 
 abbrev pub yesNo : Bool → Told
 yesNo b = silent (cond b yes no)
+
+abbrev pub oneHolds : Bool → Told
+oneHolds b = silent (cond b (holding 0) no)
 
 abbrev pub writes : List ℕ → Told
 writes bs = record { answer = wrote (length bs); bytes = bs }

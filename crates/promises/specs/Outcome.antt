@@ -4,12 +4,13 @@
 --                               arguments at exit, in the order of the call's parameters
 --   Buffered tell old x new  == what a call that is lent the buffer `old` permits: `tell` is what it tells of the buffer's room, and the result x and
 --                               the buffer at exit, `new`, are Permitted by that
---   OneOutcome t old         == two outcomes that are Permitted have the same result, so the same number, operand, offset, count and bytes written,
---                               and the same buffer
+--   OneOutcome t old         == two outcomes that are Permitted have the same result, so the same number, operand, offset, count, bytes written and
+--                               index, and the same buffer
 --   OneResult a              == the same of a contract that says only that the result is a
 --   SameStretch r r′         == the references r and r′ hand back the same bytes at the same place
 --   Kept room x              == x is told by a call that was lent a buffer of that room: it writes nothing where it refuses, says yes or is
---                               undecided, and counts nothing where it refuses; what it writes is as long as its result says, and fits
+--                               undecided; where it refuses it counts nothing, and no difference decided; what it writes is as long as its result
+--                               says, and fits
 --   Unwritten r              == the result r is a refusal, yes or undecided
 use Prim.Native.Nat.{ℕ, _≤_}
 use mathlib.Core.Path.{_≡_}
@@ -22,6 +23,7 @@ use denote.Triple.Clauses.{AtExit}
 use borrow.Fn.Kind.{PK, RK}
 use borrow.Fn.Kinds.{In, Out, Dens, resT, endedOf}
 use Rattle.answer.specs.declared.Answer.{Answer}
+use Rattle.answer.specs.Answer.{noDifference}
 use Rattle.format.specs.Told.{Told, Permitted}
 
 pub record Promise {n : ℕ} (ps : List (PK n)) (r : RK n) (Asked : In n ps) (Learnt P : Out n ps r) : Type 0 where
@@ -45,6 +47,7 @@ pub record Kept (room : ℕ) (x : Told) : Type 0 where
   pub yes : x .answer .number ≡ 1 → length (x .bytes) ≡ 0
   pub undecided : x .answer .number ≡ 3 → length (x .bytes) ≡ 0
   pub uncounted : 10 ≤ x .answer .number → x .answer .count ≡ 0
+  pub unindexed : 10 ≤ x .answer .number → x .answer .index ≡ noDifference
   pub told : x .answer .written ≡ length (x .bytes)
   pub fits : length (x .bytes) ≤ room
 

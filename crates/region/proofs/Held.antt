@@ -1,7 +1,7 @@
 -- Asking a record for a header by bytes: one turn of the question, and what the answer means.
 --   any-none, any-here, any-next     no cube left; the header is in the first cube; it is not, so the others decide
 --   record-short, record-out, record-in   too few bytes lent; not in the base; in the base, so the cuts decide
---   held-before, held-now    the first holder with one record more: one was found before; else this record decides
+--   held-before, held-now, held-none    the first holder with one record more: one was found before; this one is; there is none
 --   record-member    of an accepted record the answer is whether the header is in the difference
 --   file-member      of the records of an accepted file, the first that it is true of is the first difference that holds the header
 use Prim.Native.Nat.{ℕ, zero, suc, _+_, _-_, _*_, _≤_, _<_}
@@ -71,12 +71,19 @@ module _ (x : Holder) (b : Bool) (n : ℕ) where
       go unheld e = absurd (true≢false (sym e))
       go (held i) e = refl
 
-  pub held-now : isHeld x ≡ false → (c : Bool) (y : Holder) → c ≡ b → y ≡ cond c (held n) unheld → y ≡ orHeld x b n
-  held-now e c y q t = go x e
+  pub held-now : isHeld x ≡ false → (c : Bool) → c ≡ b → c ≡ true → held n ≡ orHeld x b n
+  held-now e c q t = go x e
     where
-      go : (x : Holder) → isHeld x ≡ false → y ≡ orHeld x b n
-      go unheld e = rw (← q) t
+      go : (x : Holder) → isHeld x ≡ false → held n ≡ orHeld x b n
+      go unheld e = rw (← q, t)
       go (held i) e = absurd (true≢false e)
+
+  pub held-none : isHeld x ≡ false → (c : Bool) → c ≡ b → c ≡ false → x ≡ orHeld x b n
+  held-none e c q t = go x e
+    where
+      go : (x : Holder) → isHeld x ≡ false → x ≡ orHeld x b n
+      go unheld e = rw (← q, t)
+      go (held i) e = refl
 
 -- what the answer means, where c spells the header of the bytes h
 module _ (w : ℕ) (h c : List ℕ) (narrow : w ≤ widest) (l : length h ≡ headerLen w) (e : codes c ≡ spelledCube h) where

@@ -45,7 +45,7 @@ pub(crate) fn ask_file(s: &[u8], h: &[u8]) -> Asked
         if read.number != 0 {
             return Asked::refused(read.number, at, w);
         }
-        holder = found(s, read.front, q, h, holder, n);
+        holder = found(s, read.front, q, h, holder, n as u16);
         at = read.front.next;
         n += 1;
     }

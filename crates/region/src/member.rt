@@ -34,7 +34,7 @@ fn in_any(s: &[u8], at: usize, q: usize, k: usize, h: &[u8]) -> bool
 }
 
 // Whether it is in the base of the record with that front and in no cut of it. Where fewer bytes are lent than a cube has, it is not.
-pub(crate) fn in_difference(s: &[u8], front: Front, q: usize, h: &[u8]) -> bool
+fn in_difference(s: &[u8], front: Front, q: usize, h: &[u8]) -> bool
     requires { ⌜ Stands q (now s) front ⌝ }
     ensures { λ r. ⌜ r ≡ heldBy q (now (h .entry)) (now (s .entry)) (front .base) (front .cuts) ⌝ }
 {
@@ -50,11 +50,11 @@ pub(crate) fn in_difference(s: &[u8], front: Front, q: usize, h: &[u8]) -> bool
 // The first difference that holds a header: none, or its index.
 pub(crate) enum Holder {
     Unheld,
-    Held(usize),
+    Held(u16),
 }
 
 // Whether there is one.
-pub(crate) fn is_held(x: Holder) -> bool
+fn is_held(x: Holder) -> bool
     ensures { λ r. ⌜ r ≡ isHeld (holderOf x) ⌝ }
 {
     match x {
@@ -64,7 +64,7 @@ pub(crate) fn is_held(x: Holder) -> bool
 }
 
 // The first holder up to this record, the n-th, where `before` is that of the n before it. What was found is not looked for again.
-pub(crate) fn found(s: &[u8], front: Front, q: usize, h: &[u8], before: Holder, n: usize) -> Holder
+pub(crate) fn found(s: &[u8], front: Front, q: usize, h: &[u8], before: Holder, n: u16) -> Holder
     requires { ⌜ Stands q (now s) front ⌝ }
     ensures { λ r. ⌜ holderOf r ≡ orHeld (holderOf before) (heldBy q (now (h .entry)) (now (s .entry)) (front .base) (front .cuts)) n ⌝ }
 {
@@ -74,5 +74,5 @@ pub(crate) fn found(s: &[u8], front: Front, q: usize, h: &[u8], before: Holder, 
     if in_difference(s, front, q, h) {
         return Holder::Held(n);
     }
-    Holder::Unheld
+    before
 }

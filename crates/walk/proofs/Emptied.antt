@@ -3,6 +3,7 @@
 --   region-room, region-told         the call `region_empty` of an accepted file
 --   FileLeft q s a have at i         == what is left to walk of an accepted file, on what is left of the allowance a: i differences are covered
 --   file-begun, file-turn, file-stop, file-ended    the walk of an accepted file, difference by difference
+--   file-few                         its differences have small indexes
 use Prim.Native.Nat.{ℕ, _+_, _^_, _≤_, _<_}
 use native.Mathlib.Omega.{arith}
 use mathlib.Core.Path.{_≡_, sym, ap, subst, _∙_}
@@ -17,7 +18,7 @@ use Rattle.model.proofs.Stopping.{region-in-turn}
 use Rattle.answer.specs.declared.Answer.{Answer}
 use Rattle.answer.specs.Answer.{refused}
 use Rattle.format.specs.Rows.{outcome}
-use Rattle.format.specs.Limits.{widestCube}
+use Rattle.format.specs.Limits.{widestCube, mostDifferences}
 use Rattle.format.specs.Bytes.{cubeLen, headerLen, unused}
 use Rattle.format.specs.Records.{widthOf, firstAt, differenceAt}
 use Rattle.format.specs.Files.{readFile, faultNumber, regionIn}
@@ -26,12 +27,11 @@ use Rattle.format.specs.Calls.{diff-empty, region-empty}
 use Rattle.format.proofs.Reached.{reached}
 use Rattle.format.proofs.Lending.{one-passed, one-lent, file-passed}
 use Rattle.format.proofs.Recording.{record-of, good-read}
-use Rattle.format.proofs.Filing.{File, file-of, file-good}
+use Rattle.format.proofs.Filing.{File, file-of, file-good, file-count}
 use Rattle.region.specs.declared.front.Front.{Front}
 use Rattle.region.specs.Front.{FrontIs, wholeDifference}
 use Rattle.region.specs.Ahead.{regionAhead}
 use Rattle.region.proofs.Onward.{AllAccepted, file-region, region-end, region-next, onward-file, onward-record, onward-next}
-use Rattle.region.proofs.Fronts.{front-next}
 use Rattle.visits.specs.Settle.{settle, says}
 use Rattle.walk.specs.Tell.{toldOf}
 use Rattle.walk.specs.declared.stop.Stop.{Stop}
@@ -88,7 +88,7 @@ pub record FileLeft (q : ℕ) (s : List ℕ) (a have : Allowance) (at i : ℕ) :
   pub short : q ≤ widestCube
   pub sum : have .left + have .spent < 2 ^ 32
   pub onward : AllAccepted (widthOf s) s at
-  pub fewer : i ≤ at
+  pub few : i + length (regionAhead (widthOf s) s at) ≤ mostDifferences
   pub ends : (x : Stop) → Ends q have i (wholeWalks (widthOf s) (regionAhead (widthOf s) s at)) x → Ends q a 0 (wholeWalks (widthOf s) (regionIn s)) x
 
 pub file-begun : {q : ℕ} {s : List ℕ} {a : Allowance} → q ≡ cubeLen (widthOf s) → File s → a .left + a .spent < 2 ^ 32
@@ -99,7 +99,7 @@ file-begun {q} {s} {a} e f l =
       short = omega (arith, f .width .narrow);
       sum = l;
       onward = onward-file f;
-      fewer = omega arith;
+      few = omega (arith, file-count f, ap length (file-region f));
       ends = λ x z. subst (λ (r : Region). Ends q a 0 (wholeWalks (widthOf s) r) x) (sym (file-region f)) z;
     }
 
@@ -111,6 +111,9 @@ module _ {q : ℕ} {s : List ℕ} {a have : Allowance} {at i : ℕ} (x : FileLef
       let w = widthOf s in
       let end : Stop = record { outcome = o; index = i } in
       x .ends end (subst (λ (r : Region). Ends q have i (wholeWalks w r) end) (sym (region-end w s at h)) (ends-none q have i o c))
+
+  pub file-few : at < length s → i < mostDifferences
+  file-few h = omega (arith, x .few, ap length (region-next (widthOf s) s at h))
 
   module _ (h : at < length s) {f : Front} (j : FrontIs s at f) (o : Outcome) (e : says q o ≡ settle have (walk (wholeDifference q s f))) where
     abbrev w : ℕ
@@ -125,10 +128,11 @@ module _ {q : ℕ} {s : List ℕ} {a have : Allowance} {at i : ℕ} (x : FileLef
     said : says q o ≡ settle have here
     said = e ∙ ap (λ (k : ℕ). settle have (walk (wholeDifference k s f))) (x .size) ∙ ap (settle have) (record-walk (onward-record (x .onward) h) j)
 
+    next-region : regionAhead w s at ≡ differenceAt w s at ∷ regionAhead w s (f .next)
+    next-region = region-next w s at h ∙ ap (λ (k : ℕ). differenceAt w s at ∷ regionAhead w s k) (sym (j .next))
+
     ends-so : (y : Stop) → Ends q have i (here ∷ later) y → Ends q a 0 (wholeWalks w (regionIn s)) y
-    ends-so y z =
-        let r = region-next w s at h ∙ ap (λ (k : ℕ). differenceAt w s at ∷ regionAhead w s k) (sym (j .next)) in
-        x .ends y (subst (λ (r : Region). Ends q have i (wholeWalks w r) y) (sym r) z)
+    ends-so y z = x .ends y (subst (λ (r : Region). Ends q have i (wholeWalks w r) y) (sym next-region) z)
 
     -- the difference here is covered: the others go on with what it left
     pub file-turn : o .verdict ≡ Covered → FileLeft q s a (o .allowance) (f .next) (i + 1)
@@ -138,7 +142,7 @@ module _ {q : ℕ} {s : List ℕ} {a have : Allowance} {at i : ℕ} (x : FileLef
           short = x .short;
           sum = omega (arith, x .sum, settle-keeps have _ (says q o) e);
           onward = rw (j .next) (onward-next (x .onward) h);
-          fewer = omega (arith, x .fewer, front-next (onward-record (x .onward) h) j, onward-record (x .onward) h .begun);
+          few = omega (arith, x .few, ap length next-region);
           ends = λ y z. ends-so y (ends-turn q have i here later o said v y z);
         }
 

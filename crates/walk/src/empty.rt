@@ -50,7 +50,7 @@ fn walk_file(q: usize, s: &[u8], a: Allowance) -> Stop
 {
     let mut have = a;
     let mut at = first_at(s);
-    let mut i: usize = 0;
+    let mut i: u16 = 0;
     while at < s.len() {
         let front = front_at(s, at);
         let v = walk_record(q, s, front, have);

@@ -101,7 +101,7 @@ fn walk_restored(q: usize, s: &[u8], f: Front, t: &[u8], g: Front, a: Allowance)
     let mut have = a;
     let mut at = g.base + q;
     let mut left = g.cuts;
-    let mut i: usize = 1;
+    let mut i: u16 = 1;
     while 0 < left {
         let v = walk_back(q, s, f, t, at, have);
         let k = v.verdict;

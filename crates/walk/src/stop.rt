@@ -9,7 +9,7 @@ use visits::Verdict;
 // The outcome, and how many walks were covered before the one that decided; where all are covered, how many there are.
 pub(crate) struct Stop {
     pub(crate) outcome: Outcome,
-    pub(crate) index: usize,
+    pub(crate) index: u16,
 }
 
 // Nothing is left to walk, and this is left of the allowance.

@@ -24,11 +24,11 @@ pub(crate) fn tell(x: Stop, w: usize, out: &mut [u8]) -> Answer
     let spent = allowance.spent;
     match verdict {
         Verdict::Covered => Answer::counted(1, spent),
-        Verdict::Undecided => Answer::counted(3, spent),
+        Verdict::Undecided => Answer::undecided(spent, x.index),
         Verdict::Survives => {
             let piece = v.piece;
             show(piece, w, out);
-            Answer::showing(spent, header_len(w))
+            Answer::showing(spent, header_len(w), x.index)
         }
     }
 }

@@ -155,6 +155,15 @@ pub fn many(random: &mut Random, w: usize, count: usize) -> Vec<Difference> {
     (0..count).map(|_| free(random, w)).collect()
 }
 
+/// About 256 differences, of which a late one is the first that has a header.
+pub fn many_late(random: &mut Random, w: usize) -> Vec<Difference> {
+    let count = random.between(250, 256);
+    let last = random.between(1, 40);
+    let mut region: Vec<Difference> = (last..count).map(|_| shapes::empty(random, w)).collect();
+    region.extend(many(random, w, last));
+    region
+}
+
 /// So many differences that this one is in the last result beyond the 256th.
 pub fn many_and(random: &mut Random, name: &str, last: &Difference) -> Vec<Difference> {
     let count = match name {

@@ -27,6 +27,10 @@ pub enum Theme {
     Differences,
     /// Above 256 differences, the last with about 64 cuts.
     LastCuts,
+    /// Regions whose first differences are empty, and cuts that miss before one gives back.
+    Late,
+    /// As late as about 256 differences, or 64 cuts, allow.
+    Latest,
 }
 
 /// A question and the W that its arguments were drawn for.
@@ -77,14 +81,14 @@ impl Operands {
 
 fn fitting_w(random: &mut Random, name: &str, theme: Theme) -> usize {
     match theme {
-        Theme::Plain | Theme::Covered => shapes::any_w(random),
+        Theme::Plain | Theme::Covered | Theme::Late => shapes::any_w(random),
         Theme::Deep => random.pick(&[12, 16, 24, 31, 32, 33, 99]),
         Theme::Wide => random.pick(&[317, 318, 319, 320, 320]),
         Theme::Cuts if name == "equal_fields" => random.pick(&[40, 64, 66, 99]),
         Theme::Cuts if random.one_in(24) => 320,
         Theme::Cuts if name == "ceiling" => random.pick(&[8, 12, 31, 64, 70]),
         Theme::Cuts => crowds::LEAST_W + random.below(5),
-        Theme::Differences => random.between(2, 4),
+        Theme::Differences | Theme::Latest => random.between(2, 4),
         Theme::LastCuts => crowds::LEAST_W,
     }
 }
@@ -96,6 +100,11 @@ fn operands(random: &mut Random, name: &str, theme: Theme, w: usize) -> Operands
     let differences = match theme {
         Theme::Cuts | Theme::LastCuts => crowds::pair(random, name, w),
         Theme::Differences => [shapes::difference(random, w), crowds::taken(random, w, counts.1)],
+        Theme::Late | Theme::Latest => {
+            let missing =
+                if theme == Theme::Late { random.below(4) } else { random.between(50, 60) };
+            shapes::giving_back(random, w, missing)
+        }
         _ => pair(random, theme, w),
     };
     let regions = [0, 1].map(|operand| Region {
@@ -103,6 +112,7 @@ fn operands(random: &mut Random, name: &str, theme: Theme, w: usize) -> Operands
         differences: match theme {
             Theme::Differences => crowds::many(random, w, [counts.0, counts.1][operand]),
             Theme::LastCuts => crowds::many_and(random, name, &differences[operand]),
+            Theme::Latest => crowds::many_late(random, w),
             _ => region(random, theme, &differences[operand]),
         },
     });
@@ -113,6 +123,7 @@ fn one(random: &mut Random, theme: Theme, w: usize) -> Difference {
     match theme {
         Theme::Covered => shapes::covered(random, w),
         Theme::Deep => shapes::deep(random, w),
+        Theme::Late => shapes::empty(random, w),
         _ => shapes::difference(random, w),
     }
 }
@@ -123,15 +134,22 @@ fn pair(random: &mut Random, theme: Theme, w: usize) -> [Difference; 2] {
     [first, second]
 }
 
-/// A few differences, this one last, or sometimes none.
+/// A few differences, this one last, or sometimes none. One that decides late may come twice.
 fn region(random: &mut Random, theme: Theme, last: &Difference) -> Vec<Difference> {
     if random.one_in(8) {
         return Vec::new();
     }
     let w = last.base.w();
-    let before = if w > 40 { 1 } else { random.pick(&[0, 0, 1, 1, 2, 3]) };
+    let before = match theme {
+        _ if w > 40 => 1,
+        Theme::Late => random.between(1, 5),
+        _ => random.pick(&[0, 0, 1, 1, 2, 3]),
+    };
     let mut region: Vec<Difference> = (0..before).map(|_| one(random, theme, w)).collect();
     region.push(last.clone());
+    if theme == Theme::Late && random.one_in(2) {
+        region.push(last.clone());
+    }
     region
 }
 
@@ -199,6 +217,9 @@ fn place(random: &mut Random, region: &Region) -> usize {
 fn allowance(random: &mut Random, theme: Theme) -> u64 {
     if theme == Theme::Deep {
         return random.pick(&[1_000, 20_000, 100_000, MOST_ALLOWANCE]);
+    }
+    if theme == Theme::Latest {
+        return random.pick(&[10_000, MOST_ALLOWANCE]);
     }
     random.pick(&[0, 1, 2, 3, 5, 9, 50, 1_000, 100_000, MOST_ALLOWANCE])
 }

@@ -74,8 +74,8 @@ fn round(random: &mut Random) -> Vec<Kind> {
 }
 
 /// What free lines have too seldom: great W for every call; many cuts or differences where a call
-/// can read or write them; ceilings about the greatest; long walks; full files with damage; damage
-/// beside two W.
+/// can read or write them; ceilings about the greatest; long walks; late differences and pieces
+/// that decide, and allowances that end before them; full files with damage; damage beside two W.
 fn extremes() -> Vec<Kind> {
     let mut extremes = Vec::new();
     for (name, _) in CALLS {
@@ -103,6 +103,8 @@ fn extremes() -> Vec<Kind> {
         if name == "prefix" {
             add(Theme::Deep, &[Twist::Damage]);
             add(Theme::Wide, &[Twist::Damage]);
+            (0..2).for_each(|_| add(Theme::Plain, &[Twist::Numbers]));
+            add(Theme::Plain, &[Twist::Room]);
         }
         if name == "region_tidy" || name == "region_empty" {
             add(Theme::Differences, &[Twist::Damage]);
@@ -110,6 +112,14 @@ fn extremes() -> Vec<Kind> {
         if name.ends_with("empty") || name == "diff_in" {
             add(Theme::Deep, &[]);
             add(Theme::Deep, &[Twist::Allowance]);
+        }
+        if name == "region_member" || name == "region_empty" || name == "diff_in" {
+            add(Theme::Late, &[]);
+            add(Theme::Latest, &[]);
+        }
+        if name == "region_empty" || name == "diff_in" {
+            add(Theme::Late, &[Twist::Between]);
+            add(Theme::Latest, &[Twist::Between]);
         }
     }
     extremes
@@ -141,18 +151,20 @@ fn question(random: &mut Random, name: &str, theme: Theme, twists: &[Twist]) -> 
 /// Up to three twists: two faults in one question show which comes first.
 fn free(random: &mut Random) -> Question {
     let (name, _) = random.pick(&CALLS);
-    let theme = random.pick(&[Theme::Plain, Theme::Plain, Theme::Plain, Theme::Covered]);
+    let themes = [Theme::Plain, Theme::Plain, Theme::Plain, Theme::Covered, Theme::Late];
+    let theme = random.pick(&themes);
     let count = random.pick(&[0, 0, 1, 1, 1, 2, 3]);
     let twists: Vec<Twist> = (0..count).map(|_| any_twist(random)).collect();
     question(random, name, theme, &twists)
 }
 
 fn any_twist(random: &mut Random) -> Twist {
-    match random.below(8) {
+    match random.below(9) {
         0..=3 => Twist::Damage,
         4 => Twist::W,
         5 => Twist::Room,
         6 => Twist::Allowance,
+        7 => Twist::Between,
         _ => Twist::Numbers,
     }
 }

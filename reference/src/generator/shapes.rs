@@ -140,6 +140,13 @@ fn cover(random: &mut Random, base: &Cube, most: usize) -> Vec<Cube> {
     cuts
 }
 
+/// A difference without a header: one cut is its base, or several cover it together.
+pub fn empty(random: &mut Random, w: usize) -> Difference {
+    let base = base(random, w);
+    let cuts = if random.one_in(2) { vec![base.clone()] } else { cover(random, &base, 2) };
+    Difference { base, cuts }
+}
+
 /// A covered difference with a long walk: its first cuts leave many pieces for the cover.
 pub fn deep(random: &mut Random, w: usize) -> Difference {
     let base = Cube::all_free(w);
@@ -171,6 +178,28 @@ pub fn other(random: &mut Random, first: &Difference) -> Difference {
         }
         _ => difference(random, first.base.w()),
     }
+}
+
+/// Two differences, the second with a base that holds the first's: only its cuts can give back a
+/// header. The first so many of them miss the first's base, and some of those after too.
+pub fn giving_back(random: &mut Random, w: usize, missing_first: usize) -> [Difference; 2] {
+    let fixed = random.between(1, 2);
+    let base = narrowed(random, &Cube::all_free(w), fixed);
+    let own = random.below(3);
+    let own = (0..own).map(|_| narrowed(random, &base, 2)).collect();
+    let wider = widened(random, &base);
+    let count = missing_first + random.between(1, 4);
+    let given = |i: usize| {
+        let within = narrowed(random, &base, 2);
+        let misses = i < missing_first || random.one_in(3);
+        if misses {
+            missing(random, &base, within)
+        } else {
+            within
+        }
+    };
+    let cuts = (0..count).map(given).collect();
+    [Difference { base, cuts: own }, Difference { base: wider, cuts }]
 }
 
 /// A header, often in the cube.

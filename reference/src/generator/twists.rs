@@ -1,4 +1,5 @@
-//! Twists of a valid question: damage, another W, a tight room or allowance, extreme numbers.
+//! Twists of a valid question: damage, another W, a tight room or allowance, an allowance that ends
+//! between two differences or pieces, extreme numbers.
 
 use super::damage;
 use super::draw::{self, Drawn, Theme};
@@ -6,6 +7,8 @@ use super::random::Random;
 use super::shapes;
 use crate::desk::{ask, sorts, Argument, Question, Sort, MOST_ROOM};
 use crate::header::Header;
+use crate::record;
+use crate::region::Region;
 
 /// The longest walk that a generated question may cost.
 pub const LONGEST_WALK: u64 = 200_000;
@@ -16,6 +19,7 @@ pub enum Twist {
     W,
     Room,
     Allowance,
+    Between,
     Numbers,
 }
 
@@ -27,6 +31,7 @@ pub fn twisted(random: &mut Random, mut drawn: Drawn, twists: &[Twist]) -> Quest
             Twist::W => change_w(random, &mut drawn),
             Twist::Numbers => change_number(random, &mut drawn),
             Twist::Allowance => tighten_allowance(random, &mut drawn.question),
+            Twist::Between => stop_between(random, &mut drawn),
             Twist::Room => tighten_room(random, &mut drawn),
         }
     }
@@ -48,10 +53,11 @@ fn sort_at(question: &Question, place: usize) -> Sort {
     sorts(question.name.as_bytes()).expect("a call's name").1[place]
 }
 
-/// A part of the answer to a question: 0 is its number, 3 the count, 4 the bytes written.
+/// A part of the answer to a question: 0 is its number, 3 the count, 4 the bytes written, 5 the
+/// index.
 fn part(question: &Question, part: usize) -> u64 {
     let answer = ask(question);
-    let word = answer.split(' ').nth(part).expect("five parts");
+    let word = answer.split(' ').nth(part).expect("six parts");
     word.parse().expect("a number")
 }
 
@@ -141,6 +147,47 @@ fn tighten_allowance(random: &mut Random, question: &mut Question) {
         let below = count.saturating_sub(1);
         let allowance = random.pick(&[below, below, count, count, count + 1, 0]);
         question.arguments[place] = Argument::Number(allowance);
+    }
+}
+
+/// What the differences or pieces before one of them cost, often before the one that decides: the
+/// walk stops between two.
+fn stop_between(random: &mut Random, drawn: &mut Drawn) {
+    let Some(place) = place_of(&drawn.question, Sort::Allowance) else {
+        return;
+    };
+    let mut front = drawn.question.clone();
+    front.arguments[place] = Argument::Number(LONGEST_WALK);
+    let decides = part(&front, 5) as usize;
+    if let Some(shorter) = shortened(random, drawn, decides) {
+        front.arguments[place - 1] = Argument::Bytes(shorter);
+        drawn.question.arguments[place] = Argument::Number(part(&front, 3));
+    }
+}
+
+/// The file, or the second record of an inclusion, without the differences or cuts from one on that
+/// comes no later than the one that decides.
+fn shortened(random: &mut Random, drawn: &Drawn, decides: usize) -> Option<Vec<u8>> {
+    let mut up_to = |last: usize| match random.below(2) {
+        0 => last,
+        _ => random.below(last + 1),
+    };
+    match drawn.question.name {
+        "region_empty" => {
+            let mut region = Region::read(1, drawn.question.arguments[0].bytes()).ok()?;
+            let count = region.differences.len();
+            region.differences.truncate(up_to(decides.min(count)));
+            Some(region.file())
+        }
+        "diff_in" => {
+            let lent = drawn.question.arguments[2].bytes();
+            let mut second = record::read_single(drawn.w, lent).ok()?;
+            // Piece 0 is of no cut, so the piece that decides is of the cut before.
+            let last = decides.saturating_sub(1).min(second.cuts.len());
+            second.cuts.truncate(up_to(last));
+            Some(record::kind_2(&second))
+        }
+        _ => None,
     }
 }
 

@@ -11,7 +11,7 @@ pub fn all() -> Vec<Case> {
 }
 
 fn ceiling(w: usize, base: &str, cuts: &[&str], right: u64) -> Case {
-    case("B53", format!("ceiling {w} {}", r(base, cuts)), format!("0 0 0 {right} 0 -"))
+    case("B53", format!("ceiling {w} {}", r(base, cuts)), format!("0 0 0 {right} 0 65535 -"))
 }
 
 /// A free base of f positions less the same header k times. The first bound is 1 + f + .. + f^k,
@@ -122,13 +122,13 @@ fn paid() -> Vec<Case> {
     let two = r("**", &["00", "01", "10", "11"]);
     let three = r("***", &["000", "001", "010", "011", "100", "101", "110", "111"]);
     vec![
-        case("B53", format!("diff_empty 2 {p7} 13 1"), "2 0 0 3 1 C0"),
-        case("B53", format!("diff_empty 2 {p7} 2 1"), "3 0 0 2 0 -"),
-        case("B53", format!("ceiling 2 {two}"), "0 0 0 17 0 -"),
-        case("B53", format!("diff_empty 2 {two} 17 1"), "1 0 0 4 0 -"),
-        case("B53", format!("ceiling 3 {three}"), "0 0 0 65 0 -"),
-        case("B53", format!("diff_empty 3 {three} 65 1"), "1 0 0 8 0 -"),
-        case("B53", format!("diff_empty 3 {three} 8 1"), "1 0 0 8 0 -"),
-        case("B53", format!("diff_empty 3 {three} 7 1"), "3 0 0 7 0 -"),
+        case("B53", format!("diff_empty 2 {p7} 13 1"), "2 0 0 3 1 0 C0"),
+        case("B53", format!("diff_empty 2 {p7} 2 1"), "3 0 0 2 0 0 -"),
+        case("B53", format!("ceiling 2 {two}"), "0 0 0 17 0 65535 -"),
+        case("B53", format!("diff_empty 2 {two} 17 1"), "1 0 0 4 0 65535 -"),
+        case("B53", format!("ceiling 3 {three}"), "0 0 0 65 0 65535 -"),
+        case("B53", format!("diff_empty 3 {three} 65 1"), "1 0 0 8 0 65535 -"),
+        case("B53", format!("diff_empty 3 {three} 8 1"), "1 0 0 8 0 65535 -"),
+        case("B53", format!("diff_empty 3 {three} 7 1"), "3 0 0 7 0 0 -"),
     ]
 }

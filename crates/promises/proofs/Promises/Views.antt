@@ -11,11 +11,12 @@ use mathlib.Core.List.{List, []}
 use lib.ListN.{length, getD, length-map}
 use denote.Ref.{RefT, now}
 use Rattle.model.specs.Difference.{Difference, less}
+use Rattle.model.specs.Index.{differenceOf}
 use Rattle.answer.specs.Answer.{yes, refused, fault}
 use Rattle.format.specs.Records.{countAt, widthOf, differenceAt}
 use Rattle.format.specs.Files.{readFile, faultNumber, faultOffset, offsets, regionIn}
 use Rattle.format.specs.Calls.{Viewed, view, unseen}
-use Rattle.format.specs.Meaning.{differenceOf, Seen}
+use Rattle.format.specs.Meaning.{Seen}
 use Rattle.format.proofs.Reached.{reached, each}
 use Rattle.format.proofs.Recording.{cuts-count}
 use Rattle.format.proofs.Filing.{file-of}

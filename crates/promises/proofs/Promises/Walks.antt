@@ -1,5 +1,5 @@
 -- What is promised of the calls that walk, `diff_empty`, `region_empty` and `diff_in`, and of `ceiling`. Beside the lines that the page has of every call:
---   diff-empty-decides, region-empty-decides, diff-in-decides    demand 3
+--   diff-empty-decides, region-empty-decides, diff-in-decides    demand 3, and which difference or piece decided
 --   diff-in-means            where inclusion says yes, every header of the first is in the second
 --   count-at-most-ceiling    no count of a difference's walk is above the ceiling that can be asked for
 --   ceiling-enough           where it is below its cap, an allowance of it is enough
@@ -8,16 +8,17 @@
 use Prim.Native.Nat.{ℕ, _≤_}
 use native.Mathlib.Omega.{arith}
 use mathlib.Core.Path.{_≡_}
-use mathlib.Core.List.{List, map}
+use mathlib.Core.List.{List, [], _∷_, map}
 use mathlib.Core.Bool.{true, not, _&&_}
 use lib.ListN.{length}
 use denote.Ref.{now}
 use Rattle.model.specs.Cube.{Header}
 use Rattle.model.specs.Difference.{inDifference, inRegion}
 use Rattle.model.specs.Algebra.{subtraction}
-use Rattle.model.specs.Walk.{walk, walkRegion, walkInclusion, walksLess, stop, decide}
+use Rattle.model.specs.Walk.{walk, walkRegion, walkInclusion, piecesLess, walksLess, stop, decide}
 use Rattle.model.specs.Ceiling.{ceiling, mostPieces, capped}
-use Rattle.model.proofs.Bools.{less-none, none-less}
+use Rattle.model.proofs.Bools.{less-none}
+use Rattle.model.proofs.Indexing.{one-stops, region-stops, less-stops}
 use Rattle.answer.specs.Answer.{counted}
 use Rattle.format.specs.Rows.{outcome}
 use Rattle.format.specs.Bytes.{headerLen}
@@ -26,9 +27,8 @@ use Rattle.format.specs.Files.{regionIn}
 use Rattle.format.specs.Told.{silent, deciding}
 use Rattle.format.specs.Calls.{diff-empty, region-empty, diff-in, ceiling-of}
 use Rattle.format.specs.Meaning.{Lent}
-use Rattle.format.proofs.Deciding.{empty-yes, empty-yes-when, empty-no, empty-undecided, empty-undecided-when, empty-count}
-use Rattle.format.proofs.Deciding.{region-yes, region-yes-when, region-no, region-undecided, region-undecided-when, region-count}
-use Rattle.format.proofs.Deciding.{in-yes, in-yes-when, in-no, in-undecided, in-undecided-when, in-count}
+use Rattle.format.proofs.Asking.{asks-yes}
+use Rattle.format.proofs.Deciding.{empty-asks, region-asks, in-asks}
 use Rattle.format.proofs.Deciding.{empty-at-most-ceiling, ceiling-suffices}
 use Rattle.walk.proofs.diff_empty as diff-empty-call
 use Rattle.walk.proofs.region_empty as region-empty-call
@@ -63,10 +63,8 @@ module _ (w : ℕ) (s : List ℕ) (n : ℕ) where
 
   pub diff-empty-decides : (room : ℕ)
       → let d = differenceAt w s 0 in
-      Decides w n (inDifference d) (walk d) (Lent w s × (headerLen w ≤ room)) (diff-empty w s n room)
-  diff-empty-decides room =
-      decides w n 0 _ (walk (differenceAt w s 0)) (diff-empty-answered room) (empty-yes w s n room) (empty-yes-when w s n room) (empty-no w s n room)
-      (empty-undecided w s n room) (empty-undecided-when w s n room) (empty-count w s n room)
+      Decides w n (inDifference d) (walk d) (d ∷ []) (walk d ∷ []) (Lent w s × (headerLen w ≤ room)) (diff-empty w s n room)
+  diff-empty-decides room = decides (empty-asks w s n room) (one-stops n (differenceAt w s 0))
 
   pub diff-empty-kept : (room : ℕ) → Kept room (diff-empty w s n room)
   unfolding diff-empty
@@ -102,10 +100,8 @@ module _ (s : List ℕ) (n : ℕ) where
   pub region-empty-decides : (room : ℕ)
       → let w = widthOf s in
       let r = regionIn s in
-      Decides w n (inRegion r) (walkRegion r) (Accepted s × (headerLen w ≤ room)) (region-empty s n room)
-  region-empty-decides room =
-      decides (widthOf s) n _ _ (walkRegion (regionIn s)) (region-empty-answered room) (region-yes s n room) (region-yes-when s n room) (region-no s n room)
-      (region-undecided s n room) (region-undecided-when s n room) (region-count s n room)
+      Decides w n (inRegion r) (walkRegion r) r (map walk r) (Accepted s × (headerLen w ≤ room)) (region-empty s n room)
+  region-empty-decides room = decides (region-asks s n room) (region-stops n (regionIn s))
 
   pub region-empty-kept : (room : ℕ) → Kept room (region-empty s n room)
   unfolding region-empty
@@ -140,16 +136,9 @@ module _ (w : ℕ) (s t : List ℕ) (n : ℕ) where
   pub diff-in-decides : (room : ℕ)
       → let a = differenceAt w s 0 in
       let b = differenceAt w t 0 in
-      Decides w n (λ h. inDifference a h && not (inDifference b h)) (walkInclusion a b) ((Lent w s × Lent w t) × (headerLen w ≤ room))
-      (diff-in w s t n room)
-  diff-in-decides room =
-      decides w n _ _ (walkInclusion (differenceAt w s 0) (differenceAt w t 0)) (diff-in-answered room)
-      (λ e. let ((first, second, fits), paid, within) = in-yes w s t n room e in (((first, second), fits), paid, λ h. none-less _ _ (within h)))
-      (λ ((first, second), fits) paid none. in-yes-when w s t n room (first, second, fits) paid (λ h l. less-none _ _ (none h l)))
-      (λ e. let ((first, second, fits), paid, shown) = in-no w s t n room e in (((first, second), fits), paid, shown))
-      (λ e. let ((first, second, fits), unpaid, count) = in-undecided w s t n room e in (((first, second), fits), unpaid, count))
-      (λ ((first, second), fits). in-undecided-when w s t n room (first, second, fits))
-      (λ ((first, second), fits). in-count w s t n room (first, second, fits))
+      Decides w n (λ h. inDifference a h && not (inDifference b h)) (walkInclusion a b) (piecesLess a b) (walksLess a b)
+      ((Lent w s × Lent w t) × (headerLen w ≤ room)) (diff-in w s t n room)
+  diff-in-decides room = decides (in-asks w s t n room) (less-stops n (differenceAt w s 0) (differenceAt w t 0))
 
   pub diff-in-kept : (room : ℕ) → Kept room (diff-in w s t n room)
   unfolding diff-in
@@ -161,7 +150,7 @@ module _ (w : ℕ) (s t : List ℕ) (n : ℕ) where
 
   pub diff-in-means : (room : ℕ) → diff-in w s t n room .answer .number ≡ 1 → (h : Header)
       → inDifference (differenceAt w s 0) h ≡ true → inDifference (differenceAt w t 0) h ≡ true
-  diff-in-means room e = let (_, _, within) = in-yes w s t n room e in within
+  diff-in-means room e = let (_, _, none) = asks-yes (in-asks w s t n room) e in λ h. less-none _ _ (none h)
 
   pub in-count-at-most-ceilings : (room : ℕ)
       → diff-in w s t n room .answer .count ≤ ceilings (subtraction (differenceAt w s 0) (differenceAt w t 0))

@@ -73,6 +73,9 @@ returns-2 c =
     rw (c .refused2 .ensures, width-of .ensures .0)
     (asked-refused (loop .inv) _ (goes .taken) (rw (width-of .ensures .0) at (c .before .before .before .read-record .ensures .number)) (c .before .if2 .taken))
 
+cast-found : tie.Need-cast-found Inv-loop μ-loop
+cast-found c = omega (arith, accepted c .room)
+
 found-requires : tie.Need-found-requires Inv-loop μ-loop
 found-requires c κs =
     let cube-len = c .before .before .before .before .before .before .cube-len in
@@ -114,6 +117,7 @@ ask-file-spec =
     read-record-requires
     refused-requires-2
     returns-2
+    cast-found
     found-requires
     add-n
     loop-less

@@ -1,11 +1,13 @@
 -- `region::calls::diff_member` meets its contract.
 use mathlib.Core.Bool.{true}
+use mathlib.Core.List.{[], _∷_}
 use mathlib.Core.Path.{ap, _∙_}
 use borrow.Author.Needs.{needs}
-use Rattle.model.specs.Difference.{inDifference}
+use Rattle.model.specs.Difference.{firstHolder}
+use Rattle.format.specs.Rows.{last}
 use Rattle.format.specs.Bytes.{readHeader}
 use Rattle.format.specs.Records.{differenceAt}
-use Rattle.format.specs.Told.{lentHeader, yesOr, Told, silent}
+use Rattle.format.specs.Told.{lentHeader, belonging, Told, silent}
 use Rattle.format.proofs.Recording.{Record, record-of}
 use Rattle.format.specs.Calls.{diff-member}
 use Rattle.format.proofs.Lending.{one-refused, one-lent}
@@ -27,7 +29,9 @@ returns : tie.Need-returns
 unfolding diff-member
 returns c =
     let x = c .before .before .before .before .before .args in
-    ap (λ (t : Told). t .answer) (one-refused (x .w) (x .s .now) _ (c .before .before .one-refusal .ensures) silent (lentHeader (x .w) (x .h .now) (yesOr (inDifference (differenceAt (x .w) (x .s .now) 0) (readHeader (x .w) (x .h .now))))) (c .if1 .taken))
+    let holder = firstHolder (differenceAt (x .w) (x .s .now) 0 ∷ []) (readHeader (x .w) (x .h .now)) in
+    let k = lentHeader (x .w) (x .h .now) (last (belonging holder)) in
+    ap (λ (t : Told). t .answer) (one-refused (x .w) (x .s .now) _ (c .before .before .one-refusal .ensures) silent k (c .if1 .taken))
 
 spelled-requires : tie.Need-spelled-requires
 spelled-requires c κs = search needs
@@ -38,11 +42,11 @@ front-at-requires c κs = search needs
 cube-len-requires : tie.Need-cube-len-requires
 cube-len-requires c κs = search needs
 
-slice-aggregate-in-difference : tie.Need-slice-aggregate-in-difference
-slice-aggregate-in-difference c = search needs
+slice-aggregate-found : tie.Need-slice-aggregate-found
+slice-aggregate-found c = search needs
 
-in-difference-requires : tie.Need-in-difference-requires
-in-difference-requires c κs =
+found-requires : tie.Need-found-requires
+found-requires c κs =
     rw (c .before .cube-len .ensures) (front-stands (accepted (c .before .before .before .before)) (c .before .before .front-at .ensures .0))
 
 told-requires : tie.Need-told-requires
@@ -56,7 +60,7 @@ returns-2 c =
     let x = c .before .before .before .before .before .before .before .before .before .before .before .args in
     let e = c .before .before .before .before .before .before in
     let i = front-at .ensures .0 in
-    let held = rw (c .before .before .before .cube-len .ensures, front-base (accepted e) i, i .cuts) at (c .before .in-difference .ensures) in
+    let held = rw (c .before .before .before .cube-len .ensures, front-base (accepted e) i, i .cuts) at (c .before .found .ensures) in
     c .told .ensures
     ∙ ap (λ (t : Told). t .answer) (diff-told (x .w) (x .s .now) (x .h .now) _ _ _ (one-refusal .ensures) (e .if1 .left) (spelled .ensures) held)
 
@@ -69,7 +73,7 @@ diff-member-spec =
     spelled-requires
     front-at-requires
     cube-len-requires
-    slice-aggregate-in-difference
-    in-difference-requires
+    slice-aggregate-found
+    found-requires
     told-requires
     returns-2)

@@ -28,20 +28,16 @@ returns c =
     let i = ask-file .ensures .file in
     c .fault .ensures ∙ ap (λ (t : Told). t .answer) (file-refused (x .s .now) 1 _ _ _ (i .number) (i .offset) (c .before .if1 .taken))
 
-is-held-requires : tie.Need-is-held-requires
-is-held-requires c κs = search needs
-
 told-requires : tie.Need-told-requires
 told-requires c κs = search needs
 
 returns-2 : tie.Need-returns-2
 returns-2 c =
-    let ask-file = c .before .before .before .before .before .ask-file in
-    let spelled = c .before .before .before .before .before .before .before .spelled in
+    let ask-file = c .before .before .before .before .ask-file in
+    let spelled = c .before .before .before .before .before .before .spelled in
     let a = ask-file .ensures in
     c .told .ensures
-    ∙ ap (λ (t : Told). t .answer)
-    (region-told _ _ _ _ _ a (c .before .is-held .ensures) (sym (a .file .number) ∙ c .before .before .if1 .left) (spelled .ensures))
+    ∙ ap (λ (t : Told). t .answer) (region-told _ _ _ _ a (sym (a .file .number) ∙ c .before .if1 .left) (spelled .ensures))
 
 pub region-member-spec : {M : Type 1} → statement M
 region-member-spec =
@@ -52,6 +48,5 @@ region-member-spec =
     ask-file-requires
     fault-requires
     returns
-    is-held-requires
     told-requires
     returns-2)

@@ -2,9 +2,9 @@
 use mathlib.Core.Path.{_≡_, sym, _∙_}
 use mathlib.Core.Bool.{false}
 use borrow.Author.Needs.{needs}
-use Rattle.model.specs.Difference.{unheld, held, isHeld}
+use Rattle.model.specs.Difference.{isHeld}
 use Rattle.region.specs.Asked.{holderOf}
-use Rattle.region.proofs.Held.{held-before, held-now}
+use Rattle.region.proofs.Held.{held-before, held-now, held-none}
 use Rattle.region.proofs.member.found.Statement.{statement}
 use Rattle.region.proofs.member.found.Tie as tie
 
@@ -24,12 +24,12 @@ in-difference-requires c κs = search needs
 returns-2 : tie.Need-returns-2
 returns-2 c =
     let x = c .before .before .before .before .before .before .args in
-    held-now (holderOf (x .before)) _ (x .n) (unfound (c .before .before)) _ (held (x .n)) (c .before .in-difference .ensures) (rw (c .if2 .taken))
+    held-now (holderOf (x .before)) _ (x .n) (unfound (c .before .before)) _ (c .before .in-difference .ensures) (c .if2 .taken)
 
 returns-3 : tie.Need-returns-3
 returns-3 c =
     let x = c .before .before .before .before .before .before .args in
-    held-now (holderOf (x .before)) _ (x .n) (unfound (c .before .before)) _ unheld (c .before .in-difference .ensures) (rw (c .if2 .left))
+    held-none (holderOf (x .before)) _ (x .n) (unfound (c .before .before)) _ (c .before .in-difference .ensures) (c .if2 .left)
 
 pub found-spec : {M : Type 1} → statement M
 found-spec = tie.close (tie.spec is-held-requires returns in-difference-requires returns-2 returns-3)

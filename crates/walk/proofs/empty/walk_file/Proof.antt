@@ -7,7 +7,7 @@ use Rattle.format.proofs.Filing.{file-of}
 use Rattle.region.proofs.Onward.{onward-record}
 use Rattle.region.proofs.Fronts.{front-next, front-stands}
 use Rattle.visits.proofs.Turn.{is-covered, not-covered}
-use Rattle.walk.proofs.Emptied.{FileLeft, file-begun, file-turn, file-stop, file-ended}
+use Rattle.walk.proofs.Emptied.{FileLeft, file-begun, file-few, file-turn, file-stop, file-ended}
 use Rattle.walk.proofs.empty.walk_file.Statement.{statement}
 use Rattle.walk.proofs.empty.walk_file.Tie as tie
 
@@ -47,7 +47,8 @@ returns c =
 add-i : tie.Need-add-i Inv-loop μ-loop
 add-i c =
     let l = c .before .before .before .before .before .before .loop in
-    omega (arith, l .inv .fewer, c .before .before .before .before .before .loop-test .taken)
+    let goes = c .before .before .before .before .before .loop-test in
+    omega (arith, file-few (l .inv) (goes .taken))
 
 loop-less : tie.Need-loop-less Inv-loop μ-loop
 loop-less c =

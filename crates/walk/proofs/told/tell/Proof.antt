@@ -22,8 +22,8 @@ counted-requires c κs = search needs
 enum-told-2 : tie.Need-enum-told-2
 enum-told-2 c = search needs
 
-counted-requires-2 : tie.Need-counted-requires-2
-counted-requires-2 c κs = search needs
+undecided-requires : tie.Need-undecided-requires
+undecided-requires c κs = search needs
 
 enum-told-3 : tie.Need-enum-told-3
 enum-told-3 c = search needs
@@ -53,7 +53,7 @@ returns-2 : tie.Need-returns-2
 returns-2 c =
     let a = c .before .before .before .before .before .before .args in
     let e = sym (c .before .enum-told2 .given .1) in (
-      c .counted2 .ensures ∙ ap (λ (k : Verdict). toldBy (a .w) (a .x) k .answer) e,
+      c .undecided .ensures ∙ ap (λ (k : Verdict). toldBy (a .w) (a .x) k .answer) e,
       ap (λ (k : Verdict). over (a .out .now) (toldBy (a .w) (a .x) k .bytes)) e,
     )
 
@@ -67,7 +67,7 @@ returns-3 c =
     let a = c .before .before .before .before .before .before .before .before .before .before .before .before .args in
     let o = a .x .outcome in
     let e = sym (enum-told3 .given .1) in (
-      c .showing .ensures ∙ ap (λ (b : ℕ). showing (o .allowance .spent) b) (c .before .header-len .ensures)
+      c .showing .ensures ∙ ap (λ (b : ℕ). showing (o .allowance .spent) b (a .x .index)) (c .before .header-len .ensures)
           ∙ ap (λ (k : Verdict). toldBy (a .w) (a .x) k .answer) e,
       show .ensures ∙ shown-fits (o .piece) (search needs) (a .out .now) (a .w) (search needs) (search needs)
           ∙ ap (λ (k : Verdict). over (a .out .now) (toldBy (a .w) (a .x) k .bytes)) e,
@@ -80,7 +80,7 @@ tell-spec =
     enum-told
     counted-requires
     enum-told-2
-    counted-requires-2
+    undecided-requires
     enum-told-3
     show-requires
     header-len-requires
