@@ -1,6 +1,6 @@
 -- What the pairs of each operation make together, over differences of whole bytes.
---   wholeThere q s at == the difference of the record at an offset
---   wholeRegion q s a == the region of the records from a on
+--   whole_there q s at == the difference of the record at an offset
+--   whole_region q s a == the region of the records from a on
 --   tidy-stops, less-turn    where tidying stops; a stop of subtraction more
 --   tidy-total        the region tidied
 --   intersect-total   the intersections of two regions, tidied
@@ -14,28 +14,28 @@ use borrow.Author.Tests.{eq-eqb, ne_eqb}
 use lib.ListN.{length}
 use Rattle.model.specs.Cube.{Cube, meet, shares}
 use Rattle.model.specs.Difference.{Difference, less, Region}
-use Rattle.model.specs.Tidy.{tidy, each, tidyRegion}
+use Rattle.model.specs.Tidy.{tidy, each, tidy_region}
 use Rattle.model.specs.Algebra.{intersection, intersections, restored, subtraction, subtractions}
 use Rattle.model.proofs.Tidying.{each_append}
-use Rattle.cube.specs.Whole.{whole_at, wholesAt}
+use Rattle.cube.specs.Whole.{whole_at, wholes_at}
 use Rattle.region.specs.declared.front.Front.{Front}
-use Rattle.region.specs.Front.{frontAt, wholeDifference}
+use Rattle.region.specs.Front.{front_at, whole_difference}
 use Rattle.region.specs.Ahead.{ahead}
 use Rattle.region.proofs.Strides.{steps-end, steps-turn}
-use Rattle.algebra.specs.Stops.{stop_at, basesOf}
+use Rattle.algebra.specs.Stops.{stop_at, bases_of}
 use Rattle.algebra.specs.Totals.{stops, made, total}
 use Rattle.algebra.specs.declared.stop.Operation.TheVariants.{Tidy, Intersect, Less}
 use Rattle.algebra.proofs.Running.{stop-on, less-next}
 
-abbrev pub wholeThere : ℕ → List ℕ → ℕ → Difference
-wholeThere q s at = wholeDifference q s (frontAt s at)
+abbrev pub whole_there : ℕ → List ℕ → ℕ → Difference
+whole_there q s at = whole_difference q s (front_at s at)
 
-abbrev pub wholeRegion : ℕ → List ℕ → ℕ → Region
-wholeRegion q s a = map (wholeThere q s) (ahead s a)
+abbrev pub whole_region : ℕ → List ℕ → ℕ → Region
+whole_region q s a = map (whole_there q s) (ahead s a)
 
 -- what is made and tidied for one after another is tidied as a whole
-each-tidied : (f : ℕ → Region) (g : Difference → Region) (d : ℕ → Difference) → ((x : ℕ) → f x ≡ tidyRegion (g (d x))) → (xs : List ℕ)
-    → each f xs ≡ tidyRegion (each g (map d xs))
+each-tidied : (f : ℕ → Region) (g : Difference → Region) (d : ℕ → Difference) → ((x : ℕ) → f x ≡ tidy_region (g (d x))) → (xs : List ℕ)
+    → each f xs ≡ tidy_region (each g (map d xs))
 each-tidied f g d e [] = refl
 each-tidied f g d e (x ∷ xs) = rw (e x, each-tidied f g d e xs) (sym (each_append tidy (g (d x)) (each g (map d xs))))
 
@@ -45,18 +45,18 @@ each-one (d ∷ r) = ap (λ (z : Region). d ∷ z) (each-one r)
 
 -- a piece, or none
 piece-or : (b : Bool) (c : Cube) (cuts : List Cube)
-    → tidyRegion (map (λ x. less x cuts) (cond b (c ∷ []) [])) ≡ tidyRegion (cond b (less c cuts ∷ []) [])
+    → tidy_region (map (λ x. less x cuts) (cond b (c ∷ []) [])) ≡ tidy_region (cond b (less c cuts ∷ []) [])
 piece-or true c cuts = refl
 piece-or false c cuts = refl
 
-back-append : (b : Bool) (d : Difference) (r : Region) → tidyRegion (cond b (d ∷ []) []) ++ tidyRegion r ≡ tidyRegion (cond b (d ∷ r) r)
+back-append : (b : Bool) (d : Difference) (r : Region) → tidy_region (cond b (d ∷ []) []) ++ tidy_region r ≡ tidy_region (cond b (d ∷ r) r)
 back-append true d r = rw (append-nil (tidy d))
 back-append false d r = refl
 
 module _ (q : ℕ) (s t : List ℕ) where
   -- tidying
-  tidy-made : (f : Front) (x : ℕ) → made Tidy q s t f x ≡ tidy (wholeDifference q s f)
-  unfolding made stop_at basesOf wholesAt
+  tidy-made : (f : Front) (x : ℕ) → made Tidy q s t f x ≡ tidy (whole_difference q s f)
+  unfolding made stop_at bases_of wholes_at
   tidy-made f x = simp append-nil refl
 
   pub tidy-stops : 0 < length t → stops Tidy q t 0 ≡ 0 ∷ []
@@ -64,40 +64,40 @@ module _ (q : ℕ) (s t : List ℕ) where
   tidy-stops h =
       steps-turn (λ y. length t) (length t) (λ y l. l) 0 h ∙ ap (λ (xs : List ℕ). 0 ∷ xs) (steps-end (λ y. length t) (length t) (length t) (omega arith))
 
-  pub tidy-total : (a : ℕ) → 0 < length t → total Tidy q s a t 0 ≡ tidyRegion (wholeRegion q s a)
+  pub tidy-total : (a : ℕ) → 0 < length t → total Tidy q s a t 0 ≡ tidy_region (whole_region q s a)
   unfolding total
   tidy-total a h =
       rw (tidy-stops h)
-      (each-tidied (λ b. made Tidy q s t (frontAt s b) 0 ++ []) (λ d. d ∷ []) (wholeThere q s)
-      (λ b. ap (λ (r : Region). r ++ []) (tidy-made (frontAt s b) 0)) (ahead s a))
-      ∙ ap tidyRegion (each-one (wholeRegion q s a))
+      (each-tidied (λ b. made Tidy q s t (front_at s b) 0 ++ []) (λ d. d ∷ []) (whole_there q s)
+      (λ b. ap (λ (r : Region). r ++ []) (tidy-made (front_at s b) 0)) (ahead s a))
+      ∙ ap tidy_region (each-one (whole_region q s a))
 
   -- intersection
-  intersect-made : (f : Front) (x : ℕ) → made Intersect q s t f x ≡ tidyRegion (intersection (wholeDifference q s f) (wholeThere q t x))
-  unfolding made stop_at basesOf intersection
+  intersect-made : (f : Front) (x : ℕ) → made Intersect q s t f x ≡ tidy_region (intersection (whole_difference q s f) (whole_there q t x))
+  unfolding made stop_at bases_of intersection
   intersect-made f x =
-      let a = wholeDifference q s f in
-      let b = wholeThere q t x in
+      let a = whole_difference q s f in
+      let b = whole_there q t x in
       piece-or (shares a.base b.base) (meet a.base b.base) (a.cuts ++ b.cuts)
 
-  pub intersect-total : (a x : ℕ) → total Intersect q s a t x ≡ tidyRegion (intersections (wholeRegion q s a) (wholeRegion q t x))
+  pub intersect-total : (a x : ℕ) → total Intersect q s a t x ≡ tidy_region (intersections (whole_region q s a) (whole_region q t x))
   unfolding total stop_at
   intersect-total a x =
-      each-tidied (λ b. each (made Intersect q s t (frontAt s b)) (ahead t x)) (λ d. each (intersection d) (wholeRegion q t x)) (wholeThere q s)
-      (λ b. each-tidied (made Intersect q s t (frontAt s b)) (intersection (wholeThere q s b)) (wholeThere q t) (intersect-made (frontAt s b)) (ahead t x))
+      each-tidied (λ b. each (made Intersect q s t (front_at s b)) (ahead t x)) (λ d. each (intersection d) (whole_region q t x)) (whole_there q s)
+      (λ b. each-tidied (made Intersect q s t (front_at s b)) (intersection (whole_there q s b)) (whole_there q t) (intersect-made (front_at s b)) (ahead t x))
       (ahead s a)
 
   -- subtraction of a record whose base starts at b
   module _ (b : ℕ) (some : 1 ≤ q) where
-    less-base : (f : Front) → made (Less b) q s t f b ≡ tidy (less (whole_at q s f.base) (wholesAt q s (f.base + q) f.cuts ++ (whole_at q t b ∷ [])))
-    unfolding made stop_at basesOf wholesAt
+    less-base : (f : Front) → made (Less b) q s t f b ≡ tidy (less (whole_at q s f.base) (wholes_at q s (f.base + q) f.cuts ++ (whole_at q t b ∷ [])))
+    unfolding made stop_at bases_of wholes_at
     less-base f = rw (eq-eqb b b refl) (append-nil _)
 
-    less-cut : (f : Front) (x : ℕ) → b < x → let d = wholeDifference q s f in
-        made (Less b) q s t f x ≡ tidyRegion (cond (shares d.base (whole_at q t x)) (less (meet d.base (whole_at q t x)) d.cuts ∷ []) [])
-    unfolding made stop_at basesOf wholesAt
+    less-cut : (f : Front) (x : ℕ) → b < x → let d = whole_difference q s f in
+        made (Less b) q s t f x ≡ tidy_region (cond (shares d.base (whole_at q t x)) (less (meet d.base (whole_at q t x)) d.cuts ∷ []) [])
+    unfolding made stop_at bases_of wholes_at
     less-cut f x h =
-        let d = wholeDifference q s f in
+        let d = whole_difference q s f in
         rw (ne_eqb x b (omega arith), append-nil d.cuts) (piece-or (shares d.base (whole_at q t x)) (meet d.base (whole_at q t x)) d.cuts)
 
     pub less-turn : (x : ℕ) → x < length t → stops (Less b) q t x ≡ x ∷ stops (Less b) q t (x + q)
@@ -106,18 +106,18 @@ module _ (q : ℕ) (s t : List ℕ) where
         ∙ ap (λ (y : ℕ). x ∷ stops (Less b) q t y) (less-next b q t x)
 
     less-rest : (f : Front) (n x : ℕ) → b < x → x + n * q ≡ length t
-        → each (made (Less b) q s t f) (stops (Less b) q t x) ≡ tidyRegion (restored (wholeDifference q s f) (wholesAt q t x n))
-    unfolding restored wholesAt
+        → each (made (Less b) q s t f) (stops (Less b) q t x) ≡ tidy_region (restored (whole_difference q s f) (wholes_at q t x n))
+    unfolding restored wholes_at
     less-rest f zero x h e = rw (steps-end (λ y. (stop_at (Less b) q t y).next) (length t) x (omega arith))
     less-rest f (suc n) x h e =
         rw (less-turn x (omega arith), less-cut f x h, less-rest f n (x + q) (omega arith) (omega arith))
-        (back-append (shares (whole_at q s f.base) (whole_at q t x)) _ (restored (wholeDifference q s f) (wholesAt q t (x + q) n)))
+        (back-append (shares (whole_at q s f.base) (whole_at q t x)) _ (restored (whole_difference q s f) (wholes_at q t (x + q) n)))
 
     pub less-total : (a n : ℕ) → length t ≡ b + (n + 1) * q
-        → total (Less b) q s a t b ≡ tidyRegion (subtractions (wholeRegion q s a) (less (whole_at q t b) (wholesAt q t (b + q) n)))
+        → total (Less b) q s a t b ≡ tidy_region (subtractions (whole_region q s a) (less (whole_at q t b) (wholes_at q t (b + q) n)))
     unfolding total
     less-total a n e =
-        each-tidied (λ c. each (made (Less b) q s t (frontAt s c)) (stops (Less b) q t b))
-        (λ d. subtraction d (less (whole_at q t b) (wholesAt q t (b + q) n))) (wholeThere q s)
-        (λ c. rw (less-turn b (omega arith), less-base (frontAt s c), less-rest (frontAt s c) n (b + q) (omega arith) (omega arith)))
+        each-tidied (λ c. each (made (Less b) q s t (front_at s c)) (stops (Less b) q t b))
+        (λ d. subtraction d (less (whole_at q t b) (wholes_at q t (b + q) n))) (whole_there q s)
+        (λ c. rw (less-turn b (omega arith), less-base (front_at s c), less-rest (front_at s c) n (b + q) (omega arith) (omega arith)))
         (ahead s a)

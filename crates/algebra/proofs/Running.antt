@@ -18,11 +18,11 @@ use lib.ListN.{length}
 use Rattle.model.specs.Difference.{Region}
 use Rattle.model.specs.Tidy.{each}
 use Rattle.region.specs.declared.front.Front.{Front}
-use Rattle.region.specs.Front.{frontAt, Stands}
+use Rattle.region.specs.Front.{front_at, Stands}
 use Rattle.region.proofs.Strides.{steps-end, steps-turn}
 use Rattle.region.proofs.Onward.{ahead-end, ahead-next}
-use Rattle.algebra.specs.Stops.{stop_at, baseStop, cutStop, Room}
-use Rattle.algebra.specs.Tidied.{takenBytes}
+use Rattle.algebra.specs.Stops.{stop_at, base_stop, cut_stop, Room}
+use Rattle.algebra.specs.Tidied.{taken_bytes}
 use Rattle.algebra.specs.Totals.{stops, made, total, RecordsStand, StopsStand, Counted}
 use Rattle.algebra.specs.declared.run.Totals.{Totals}
 use Rattle.algebra.specs.declared.stop.Stop.{Stop}
@@ -31,11 +31,11 @@ use Rattle.algebra.specs.declared.stop.Operation.TheVariants.{Tidy, Intersect, L
 
 -- stops
 module _ (b q : ℕ) (t : List ℕ) (x : ℕ) where
-  less-stop : (P : Stop → Type 0) → P (baseStop q x) → P (cutStop q x) → P (stop_at (Less b) q t x)
+  less-stop : (P : Stop → Type 0) → P (base_stop q x) → P (cut_stop q x) → P (stop_at (Less b) q t x)
   unfolding stop_at
   less-stop P f g = go (eqb x b)
     where
-      go : (c : Bool) → P (cond c (baseStop q x) (cutStop q x))
+      go : (c : Bool) → P (cond c (base_stop q x) (cut_stop q x))
       go true = f
       go false = g
 
@@ -57,13 +57,13 @@ stop-on (Less b) q t h x l = rw (less-next b q t x) (omega arith)
 -- the pairs of a record of s, from a on, and a stop in t, from y on; each record begins with the stop x
 module _ (o : Operation) (q : ℕ) (s t : List ℕ) (x : ℕ) where
   unfoldable pub left : ℕ → ℕ → Region
-  left a y = cond (ltb a (length s)) (each (made o q s t (frontAt s a)) (stops o q t y) ++ total o q s (frontAt s a).next t x) []
+  left a y = cond (ltb a (length s)) (each (made o q s t (front_at s a)) (stops o q t y) ++ total o q s (front_at s a).next t x) []
 
   pub left_end : (a y : ℕ) → length s ≤ a → left a y ≡ []
   unfolding left
   left_end a y h = rw (le-ltb a (length s) h)
 
-  here : (a y : ℕ) → a < length s → left a y ≡ each (made o q s t (frontAt s a)) (stops o q t y) ++ total o q s (frontAt s a).next t x
+  here : (a y : ℕ) → a < length s → left a y ≡ each (made o q s t (front_at s a)) (stops o q t y) ++ total o q s (front_at s a).next t x
   unfolding left
   here a y h = rw (lt-ltb a (length s) h)
 
@@ -76,22 +76,22 @@ module _ (o : Operation) (q : ℕ) (s t : List ℕ) (x : ℕ) where
       go false e = let h = ltb-false a (length s) e in rw (ahead-end s a h) (sym (left_end a x h))
 
   pub left-stop : 1 ≤ q → (a y : ℕ) → a < length s → y < length t
-      → left a y ≡ made o q s t (frontAt s a) y ++ left a (stop_at o q t y).next
+      → left a y ≡ made o q s t (front_at s a) y ++ left a (stop_at o q t y).next
   left-stop k a y h l =
       let n = (stop_at o q t y).next in
       here a y h
       ∙ rw (steps-turn (λ z. (stop_at o q t z).next) (length t) (stop-on o q t k) y l, here a n h)
-      (append_assoc (made o q s t (frontAt s a) y) (each (made o q s t (frontAt s a)) (stops o q t n)) (total o q s (frontAt s a).next t x))
+      (append_assoc (made o q s t (front_at s a) y) (each (made o q s t (front_at s a)) (stops o q t n)) (total o q s (front_at s a).next t x))
 
-  pub left-turn : (a y : ℕ) → a < length s → length t ≤ y → left a y ≡ left (frontAt s a).next x
-  left-turn a y h l = here a y h ∙ rw (steps-end (λ z. (stop_at o q t z).next) (length t) y l) (left-begin (frontAt s a).next)
+  pub left-turn : (a y : ℕ) → a < length s → length t ≤ y → left a y ≡ left (front_at s a).next x
+  left-turn a y h l = here a y h ∙ rw (steps-end (λ z. (stop_at o q t z).next) (length t) y l) (left-begin (front_at s a).next)
 
 pub record Going (o : Operation) (q : ℕ) (s : List ℕ) (a : ℕ) (t : List ℕ) (x : ℕ) (old out buf : List ℕ) (sum : Totals) (at : ℕ) (f : Front) (y : ℕ)
     : Type 0 where
   pub kept : length out ≡ length old
-  pub buffer : length buf ≡ takenBytes
+  pub buffer : length buf ≡ taken_bytes
   pub short : sum.long ≡ false
-  pub front : f ≡ frontAt s at
+  pub front : f ≡ front_at s at
   pub records : RecordsStand q s at
   pub stands : StopsStand o q t y
   pub done : Region
@@ -100,7 +100,7 @@ pub record Going (o : Operation) (q : ℕ) (s : List ℕ) (a : ℕ) (t : List �
 
 -- records and stops within their operands
 pub records-turn : (q : ℕ) (s : List ℕ) (a : ℕ) → a < length s → RecordsStand q s a
-    → Stands q s (frontAt s a) × RecordsStand q s (frontAt s a).next
+    → Stands q s (front_at s a) × RecordsStand q s (front_at s a).next
 records-turn q s a h f = rw (ahead-next s a h) at f
 
 pub stops-turn : (o : Operation) (q : ℕ) (t : List ℕ) (y : ℕ) → 1 ≤ q → y < length t → StopsStand o q t y

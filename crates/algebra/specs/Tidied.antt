@@ -1,6 +1,6 @@
 -- A piece that is being tidied: the cuts kept so far stand in a buffer, behind the room for the base.
---   takenBytes             == the bytes of a piece before it is tidied: its base, and the cuts of two differences
---   keptIn base buf k      == the k cuts that are kept in the buffer
+--   taken_bytes             == the bytes of a piece before it is tidied: its base, and the cuts of two differences
+--   kept_in base buf k      == the k cuts that are kept in the buffer
 --   onward base buf m cs   == what becomes of the piece m with the cuts cs to take
 --   held q buf m           == the difference that the buffer holds, or none
 --   most m                 == how many cuts are kept of the piece m
@@ -8,33 +8,33 @@
 use Rattle.std.specs.Prelude.{ℕ, ◌+◌, ◌*◌, ◌≤◌, ◌≡◌, List, [], ◌∷◌, ◌++◌, length}
 use Rattle.model.specs.Cube.{Cube}
 use Rattle.model.specs.Difference.{Region}
-use Rattle.model.specs.Tidy.{tidyFrom}
-use Rattle.format.specs.Limits.{widestCube, takenCuts}
+use Rattle.model.specs.Tidy.{tidy_from}
+use Rattle.format.specs.Limits.{widest_cube, taken_cuts}
 use Rattle.format.specs.Bytes.{codes}
-use Rattle.cube.specs.Whole.{wholesAt}
-use Rattle.region.specs.Writing.{rowDifference}
+use Rattle.cube.specs.Whole.{wholes_at}
+use Rattle.region.specs.Writing.{row_difference}
 use Rattle.algebra.specs.declared.tidying.Made.{Made}
 use Rattle.algebra.specs.declared.tidying.Made.TheVariants.{Omitted, Kept}
 
-abbrev pub takenBytes : ℕ
-takenBytes = (takenCuts + 1) * widestCube
+abbrev pub taken_bytes : ℕ
+taken_bytes = (taken_cuts + 1) * widest_cube
 
-abbrev pub keptIn : List ℕ → List ℕ → ℕ → List Cube
-keptIn base buf k = wholesAt (length base) buf (length base) k
+abbrev pub kept_in : List ℕ → List ℕ → ℕ → List Cube
+kept_in base buf k = wholes_at (length base) buf (length base) k
 
 unfoldable pub onward : List ℕ → List ℕ → Made → List Cube → Region
 onward base buf Omitted cs = []
-onward base buf (Kept k) cs = tidyFrom (codes base) (keptIn base buf k) cs
+onward base buf (Kept k) cs = tidy_from (codes base) (kept_in base buf k) cs
 
 -- the piece itself, where the base stands in the buffer too
 unfoldable pub held : ℕ → List ℕ → Made → Region
 held q buf Omitted = []
-held q buf (Kept k) = rowDifference k q buf ∷ []
+held q buf (Kept k) = row_difference k q buf ∷ []
 
 abbrev pub most : Made → ℕ
 most Omitted = 0
 most (Kept k) = k
 
 pub record Taken (base old : List ℕ) (k : ℕ) (cs : List Cube) (new : List ℕ) (m : Made) (n : ℕ) : Type 0 where
-  pub goes : (later : List Cube) → tidyFrom (codes base) (keptIn base old k) (cs ++ later) ≡ onward base new m later
+  pub goes : (later : List Cube) → tidy_from (codes base) (kept_in base old k) (cs ++ later) ≡ onward base new m later
   pub few : most m ≤ n

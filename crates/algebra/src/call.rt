@@ -1,7 +1,7 @@
 // The calls that write regions. Each reads its operands, and leaves the rest to one engine.
 ghost use Rattle.std.specs.Prelude.{◌≡◌, length};
 ghost use Rattle.format.specs.Told.{over};
-ghost use Rattle.format.specs.Calls.{region-tidy, diff-intersect, region-intersect, diff-less, region-less};
+ghost use Rattle.format.specs.Calls.{region_tidy, diff_intersect, region_intersect, diff_less, region_less};
 
 use super::result::write_region;
 use super::stop::Operation;
@@ -10,8 +10,8 @@ use region::{check_file, first_at, front_at, record_refusal, two_refusal};
 
 // Writes the region tidied, as a region file.
 pub fn region_tidy(s: &[u8], out: &mut [u8]) -> Answer
-    ensures answer { result ≡ (region-tidy s.now (length out.old)).answer }
-    ensures bytes { out.new ≡ over out.old (region-tidy s.now (length out.old)).bytes }
+    ensures answer { result ≡ (region_tidy s.now (length out.old)).answer }
+    ensures bytes { out.new ≡ over out.old (region_tidy s.now (length out.old)).bytes }
 {
     let file = check_file(s);
     if file.number != 0 {
@@ -22,8 +22,8 @@ pub fn region_tidy(s: &[u8], out: &mut [u8]) -> Answer
 
 // Writes the headers that are in both differences, as a tidied region file.
 pub fn diff_intersect(w: usize, s: &[u8], t: &[u8], out: &mut [u8]) -> Answer
-    ensures answer { result ≡ (diff-intersect w s.now t.now (length out.old)).answer }
-    ensures bytes { out.new ≡ over out.old (diff-intersect w s.now t.now (length out.old)).bytes }
+    ensures answer { result ≡ (diff_intersect w s.now t.now (length out.old)).answer }
+    ensures bytes { out.new ≡ over out.old (diff_intersect w s.now t.now (length out.old)).bytes }
 {
     let refusal = two_refusal(w, s, t);
     if refusal.number != 0 {
@@ -34,8 +34,8 @@ pub fn diff_intersect(w: usize, s: &[u8], t: &[u8], out: &mut [u8]) -> Answer
 
 // Writes the headers that are in the first difference and not in the second, as a tidied region file.
 pub fn diff_less(w: usize, s: &[u8], t: &[u8], out: &mut [u8]) -> Answer
-    ensures answer { result ≡ (diff-less w s.now t.now (length out.old)).answer }
-    ensures bytes { out.new ≡ over out.old (diff-less w s.now t.now (length out.old)).bytes }
+    ensures answer { result ≡ (diff_less w s.now t.now (length out.old)).answer }
+    ensures bytes { out.new ≡ over out.old (diff_less w s.now t.now (length out.old)).bytes }
 {
     let refusal = two_refusal(w, s, t);
     if refusal.number != 0 {
@@ -47,8 +47,8 @@ pub fn diff_less(w: usize, s: &[u8], t: &[u8], out: &mut [u8]) -> Answer
 
 // Writes the headers that are in both regions, as a tidied region file.
 pub fn region_intersect(s: &[u8], t: &[u8], out: &mut [u8]) -> Answer
-    ensures answer { result ≡ (region-intersect s.now t.now (length out.old)).answer }
-    ensures bytes { out.new ≡ over out.old (region-intersect s.now t.now (length out.old)).bytes }
+    ensures answer { result ≡ (region_intersect s.now t.now (length out.old)).answer }
+    ensures bytes { out.new ≡ over out.old (region_intersect s.now t.now (length out.old)).bytes }
 {
     let first = check_file(s);
     if first.number != 0 {
@@ -74,8 +74,8 @@ pub fn region_intersect(s: &[u8], t: &[u8], out: &mut [u8]) -> Answer
 
 // Writes the headers that are in the region and not in the difference, as a tidied region file.
 pub fn region_less(s: &[u8], t: &[u8], out: &mut [u8]) -> Answer
-    ensures answer { result ≡ (region-less s.now t.now (length out.old)).answer }
-    ensures bytes { out.new ≡ over out.old (region-less s.now t.now (length out.old)).bytes }
+    ensures answer { result ≡ (region_less s.now t.now (length out.old)).answer }
+    ensures bytes { out.new ≡ over out.old (region_less s.now t.now (length out.old)).bytes }
 {
     let file = check_file(s);
     if file.number != 0 {

@@ -1,10 +1,10 @@
 // A piece of a result: its base, and the cuts of two stretches.
 ghost use Rattle.std.specs.Prelude.{◌≡◌, [], ◌∷◌, true, cond, ◌+◌, ◌≤◌, length};
-ghost use Rattle.format.specs.Limits.{widestCube};
+ghost use Rattle.format.specs.Limits.{widest_cube};
 ghost use Rattle.cube.specs.Whole.{whole_at};
 ghost use Rattle.region.specs.Front.{Stands};
-ghost use Rattle.algebra.specs.Tidied.{takenBytes};
-ghost use Rattle.algebra.specs.Stops.{basesOf, Room, MadeOf};
+ghost use Rattle.algebra.specs.Tidied.{taken_bytes};
+ghost use Rattle.algebra.specs.Stops.{bases_of, Room, MadeOf};
 
 use super::stop::Stop;
 use super::tidying::{Made, take_cuts};
@@ -14,7 +14,7 @@ use region::Front;
 // Puts the base of a piece over the front of a buffer; where it shares no header with the stop's cube there is no piece.
 fn put_base(q: usize, s: &[u8], front: Front, t: &[u8], stop: Stop, base: &mut [u8]) -> bool
     requires { (front.base + q ≤ length s.now) × (q ≤ length base.old) × (stop.meets ≡ true → stop.cube + q ≤ length t.now) }
-    ensures { cond result (whole_at q base.new 0 ∷ []) [] ≡ basesOf q s.now front t.now stop }
+    ensures { cond result (whole_at q base.new 0 ∷ []) [] ≡ bases_of q s.now front t.now stop }
 {
     let at = front.base;
     let end = at + q;
@@ -32,7 +32,7 @@ fn put_base(q: usize, s: &[u8], front: Front, t: &[u8], stop: Stop, base: &mut [
 
 // Tidies a piece into a buffer: its base at the front, behind it the cuts that are kept.
 pub(crate) fn make(q: usize, s: &[u8], front: Front, t: &[u8], stop: Stop, buf: &mut [u8]) -> Made
-    requires { (q ≤ widestCube) × (length buf.old ≡ takenBytes) × Stands q s.now front × Room q t.now stop }
+    requires { (q ≤ widest_cube) × (length buf.old ≡ taken_bytes) × Stands q s.now front × Room q t.now stop }
     ensures { MadeOf q s.now front t.now stop buf.new result }
 {
     let mut base = [0u8; WIDEST_CUBE];

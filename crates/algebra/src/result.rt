@@ -1,10 +1,10 @@
 // A result is measured, refused or written.
 ghost use Rattle.std.specs.Prelude.{◌≤◌, length};
 ghost use Rattle.format.specs.Limits.{widest};
-ghost use Rattle.format.specs.Bytes.{cubeLen};
+ghost use Rattle.format.specs.Bytes.{cube_len};
 ghost use Rattle.format.specs.Told.{Permitted};
 ghost use Rattle.algebra.specs.Totals.{Stand};
-ghost use Rattle.algebra.specs.Results.{wholeTold};
+ghost use Rattle.algebra.specs.Results.{whole_told};
 
 use super::run::run;
 use super::stop::Operation;
@@ -22,8 +22,8 @@ pub(crate) fn write_region(
     x: usize,
     out: &mut [u8],
 ) -> Answer
-    requires { (w ≤ widest) × Stand operation (cubeLen w) s.now a t.now x }
-    ensures { Permitted (wholeTold operation w s.now a t.now x (length out.old))
+    requires { (w ≤ widest) × Stand operation (cube_len w) s.now a t.now x }
+    ensures { Permitted (whole_told operation w s.now a t.now x (length out.old))
         out.old result out.new }
 {
     let q = cube_len(w);

@@ -1,8 +1,8 @@
 // An operation over its operands: each difference of the first with each stop in the second, made in turn, counted, and written where it fits.
 ghost use Rattle.std.specs.Prelude.{◌≡◌, ◌+◌, ◌*◌, ◌≤◌, length};
-ghost use Rattle.format.specs.Limits.{widestCube, mostCuts, takenCuts, mostDifferences};
-ghost use Rattle.region.specs.Writing.{longestRecord};
-ghost use Rattle.algebra.specs.Tidied.{takenBytes, held, most};
+ghost use Rattle.format.specs.Limits.{widest_cube, most_cuts, taken_cuts, most_differences};
+ghost use Rattle.region.specs.Writing.{longest_record};
+ghost use Rattle.algebra.specs.Tidied.{taken_bytes, held, most};
 ghost use Rattle.algebra.specs.Totals.{total, Stand, Counted, Adds, Small, PutBehind};
 
 use super::piece::make;
@@ -25,7 +25,7 @@ const TAKEN: usize = (TAKEN_CUTS + 1) * WIDEST_CUBE;
 
 // Writes the record of the difference whose cubes a buffer holds to an offset of out, if it fits there, and returns where it ends.
 fn put_behind(cubes: &[u8], k: usize, q: usize, out: &mut [u8], o: usize) -> usize
-    requires { (length cubes.now ≡ takenBytes) × (k ≤ mostCuts) × (q ≤ widestCube) × (o ≤ (mostDifferences + 1) * longestRecord) }
+    requires { (length cubes.now ≡ taken_bytes) × (k ≤ most_cuts) × (q ≤ widest_cube) × (o ≤ (most_differences + 1) * longest_record) }
     ensures { PutBehind k q cubes.now o out.old result out.new }
 {
     let end = o + record_len(k, q);
@@ -38,7 +38,7 @@ fn put_behind(cubes: &[u8], k: usize, q: usize, out: &mut [u8], o: usize) -> usi
 
 // Counts one difference more, and writes it behind the others, if it fits there.
 fn add(made: Made, q: usize, buf: &[u8], out: &mut [u8], sum: Totals) -> Totals
-    requires { (length buf.now ≡ takenBytes) × (most made ≤ takenCuts) × (q ≤ widestCube) × Small sum }
+    requires { (length buf.now ≡ taken_bytes) × (most made ≤ taken_cuts) × (q ≤ widest_cube) × Small sum }
     ensures { Adds q (held q buf.now made) out.old sum out.new result }
 {
     let Made::Kept(k) = made else {

@@ -1,8 +1,8 @@
 // Tidying one piece: its cuts are taken in order into a buffer, behind the room for its base.
 ghost use Rattle.std.specs.Prelude.{◌≡◌, [], ◌∷◌, ◌+◌, ◌*◌, ◌≤◌, ◌<◌, length};
-ghost use Rattle.format.specs.Limits.{takenCuts};
+ghost use Rattle.format.specs.Limits.{taken_cuts};
 ghost use Rattle.format.specs.Bytes.{codes};
-ghost use Rattle.cube.specs.Whole.{whole_at, wholesAt};
+ghost use Rattle.cube.specs.Whole.{whole_at, wholes_at};
 ghost use Rattle.algebra.specs.Tidied.{Taken};
 
 use super::compare::one_of;
@@ -17,7 +17,7 @@ pub(crate) enum Made {
 
 // Takes the cut at an offset: the cuts kept stand in the buffer behind the base, and this one goes behind them if it is kept.
 fn take_cut(base: &[u8], s: &[u8], at: usize, buf: &mut [u8], kept: usize) -> Made
-    requires { (at + length base.now ≤ length s.now) × (kept < takenCuts) × ((kept + 2) * length base.now ≤ length buf.old) }
+    requires { (at + length base.now ≤ length s.now) × (kept < taken_cuts) × ((kept + 2) * length base.now ≤ length buf.old) }
     ensures { Taken base.now buf.old kept (whole_at (length base.now) s.now at ∷ []) buf.new result (kept + 1) }
 {
     let q = base.len();
@@ -45,8 +45,8 @@ pub(crate) fn take_cuts(
     buf: &mut [u8],
     kept: usize,
 ) -> Made
-    requires { (at + n * length base.now ≤ length s.now) × (kept + n ≤ takenCuts) × ((kept + n + 1) * length base.now ≤ length buf.old) }
-    ensures { Taken base.now buf.old kept (wholesAt (length base.now) s.now at n) buf.new result (kept + n) }
+    requires { (at + n * length base.now ≤ length s.now) × (kept + n ≤ taken_cuts) × ((kept + n + 1) * length base.now ≤ length buf.old) }
+    ensures { Taken base.now buf.old kept (wholes_at (length base.now) s.now at n) buf.new result (kept + n) }
 {
     let mut some = kept;
     let mut next = at;

@@ -1,5 +1,5 @@
 -- The outcome of each call on two lent cubes, from what the calls on their bytes say.
---   wroteBytes n bs       == n bytes are written, and they are bs
+--   wrote_bytes n bs       == n bytes are written, and they are bs
 --   in-refused, number-refused, meet-refused, wider-refused    where the width or a cube is refused, each call says so
 --   one_size              accepted cubes have as many bytes
 --   in-yes, in-no         whether the first lies in the second
@@ -18,142 +18,142 @@ use Rattle.model.specs.Cube.{meet, shares, within}
 use Rattle.answer.specs.declared.Answer.{Answer}
 use Rattle.answer.specs.Answer.{yes, no, refused, wrote}
 use Rattle.format.specs.Rows.{Rows, last, row, so, outcome}
-use Rattle.format.specs.Bytes.{Bytes, codes, readCube, writeCube}
-use Rattle.format.specs.Told.{Told, silent, twoCubes, yesOr, writing}
-use Rattle.format.specs.Calls.{cube-meet, cube-in, Which, first, second, neither, wider, wider-number}
+use Rattle.format.specs.Bytes.{Bytes, codes, read_cube, write_cube}
+use Rattle.format.specs.Told.{Told, silent, two_cubes, yes_or, writing}
+use Rattle.format.specs.Calls.{cube_meet, cube_in, Which, first, second, neither, wider, wider_number}
 use Rattle.format.proofs.Reached.{reached}
 use Rattle.format.proofs.Lending.{pair-refused, pair-passed, pair-lent}
-use Rattle.cube.specs.Pair.{liesIn, andBytes}
+use Rattle.cube.specs.Pair.{lies_in, and_bytes}
 use Rattle.cube.specs.Call.{WiderIs}
 use Rattle.cube.proofs.Codes.{length-and}
 use Rattle.cube.proofs.Reading.{lent-clean, read-shares, read-lies, read-meet}
 
-abbrev pub wroteBytes : ℕ → List ℕ → Told
-wroteBytes n bs = record { answer = wrote n; bytes = bs }
+abbrev pub wrote_bytes : ℕ → List ℕ → Told
+wrote_bytes n bs = record { answer = wrote n; bytes = bs }
 
 module _ (w : ℕ) (a b : List ℕ) where
-  abbrev inRows : Rows Told
-  inRows = yesOr (within (readCube w a) (readCube w b))
+  abbrev in_rows : Rows Told
+  in_rows = yes_or (within (read_cube w a) (read_cube w b))
 
-  abbrev eitherRows : Rows Told
-  eitherRows = yesOr (within (readCube w b) (readCube w a) || within (readCube w a) (readCube w b))
+  abbrev either_rows : Rows Told
+  either_rows = yes_or (within (read_cube w b) (read_cube w a) || within (read_cube w a) (read_cube w b))
 
-  abbrev meetRows : ℕ → Rows Told
-  meetRows room =
-      row (so (not (shares (readCube w a) (readCube w b)))) (silent no)
-      (writing (writeCube (meet (readCube w a) (readCube w b))) room)
+  abbrev meet_rows : ℕ → Rows Told
+  meet_rows room =
+      row (so (not (shares (read_cube w a) (read_cube w b)))) (silent no)
+      (writing (write_cube (meet (read_cube w a) (read_cube w b))) room)
 
-  abbrev widerRows : Rows Which
-  widerRows =
-      row (so (within (readCube w b) (readCube w a))) first
-      (row (so (within (readCube w a) (readCube w b))) second
+  abbrev wider_rows : Rows Which
+  wider_rows =
+      row (so (within (read_cube w b) (read_cube w a))) first
+      (row (so (within (read_cube w a) (read_cube w b))) second
       (last neither))
 
   -- refused, with r
-  module _ (r : Answer) (is : r ≡ outcome (twoCubes w a b)) (h : r.number ≡ 0 → ⊥) where
-    pub in-refused : silent r ≡ cube-in w a b
-    unfolding cube-in
-    in-refused = pair-refused w a b r is silent inRows h
+  module _ (r : Answer) (is : r ≡ outcome (two_cubes w a b)) (h : r.number ≡ 0 → ⊥) where
+    pub in-refused : silent r ≡ cube_in w a b
+    unfolding cube_in
+    in-refused = pair-refused w a b r is silent in_rows h
 
-    pub number-refused : silent r ≡ wider-number w a b
-    unfolding wider-number
-    number-refused = pair-refused w a b r is silent eitherRows h
+    pub number-refused : silent r ≡ wider_number w a b
+    unfolding wider_number
+    number-refused = pair-refused w a b r is silent either_rows h
 
-    pub meet-refused : (room : ℕ) → silent r ≡ cube-meet w a b room
-    unfolding cube-meet
-    meet-refused room = pair-refused w a b r is silent (meetRows room) h
+    pub meet-refused : (room : ℕ) → silent r ≡ cube_meet w a b room
+    unfolding cube_meet
+    meet-refused room = pair-refused w a b r is silent (meet_rows room) h
 
     pub wider-refused : neither ≡ wider w a b
     unfolding wider
-    wider-refused = pair-refused w a b r is (λ _. neither) widerRows h
+    wider-refused = pair-refused w a b r is (λ _. neither) wider_rows h
 
   -- accepted
-  module _ (r : Answer) (is : r ≡ outcome (twoCubes w a b)) (h : r.number ≡ 0) where
+  module _ (r : Answer) (is : r ≡ outcome (two_cubes w a b)) (h : r.number ≡ 0) where
     pub one_size : length a ≡ length b
     one_size =
         let p = pair-lent w a b r is h in
         (lent-clean w a p.0).0 ∙ sym (lent-clean w b p.1).0
 
-    lies : liesIn a b ≡ within (readCube w a) (readCube w b)
+    lies : lies_in a b ≡ within (read_cube w a) (read_cube w b)
     lies =
         let p = pair-lent w a b r is h in
         let k = lent-clean w a p.0 in
         let m = lent-clean w b p.1 in
         read-lies w a b k.0 m.0 k.1 m.1
 
-    holds : liesIn b a ≡ within (readCube w b) (readCube w a)
+    holds : lies_in b a ≡ within (read_cube w b) (read_cube w a)
     holds =
         let p = pair-lent w a b r is h in
         let k = lent-clean w a p.0 in
         let m = lent-clean w b p.1 in
         read-lies w b a m.0 k.0 m.1 k.1
 
-    pub in-yes : liesIn a b ≡ true → silent yes ≡ cube-in w a b
-    unfolding cube-in
-    in-yes e = reached 0 inRows (sym lies ∙ e) ∙ pair-passed w a b r is silent inRows h
+    pub in-yes : lies_in a b ≡ true → silent yes ≡ cube_in w a b
+    unfolding cube_in
+    in-yes e = reached 0 in_rows (sym lies ∙ e) ∙ pair-passed w a b r is silent in_rows h
 
-    pub in-no : liesIn a b ≡ false → silent no ≡ cube-in w a b
-    unfolding cube-in
-    in-no e = reached 1 inRows (sym lies ∙ e, tt) ∙ pair-passed w a b r is silent inRows h
+    pub in-no : lies_in a b ≡ false → silent no ≡ cube_in w a b
+    unfolding cube_in
+    in-no e = reached 1 in_rows (sym lies ∙ e, tt) ∙ pair-passed w a b r is silent in_rows h
 
-    pub number-first : liesIn b a ≡ true → silent yes ≡ wider-number w a b
-    unfolding wider-number
-    number-first e = reached 0 eitherRows (rw (sym holds ∙ e)) ∙ pair-passed w a b r is silent eitherRows h
+    pub number-first : lies_in b a ≡ true → silent yes ≡ wider_number w a b
+    unfolding wider_number
+    number-first e = reached 0 either_rows (rw (sym holds ∙ e)) ∙ pair-passed w a b r is silent either_rows h
 
-    pub number-second : liesIn a b ≡ true → silent yes ≡ wider-number w a b
-    unfolding wider-number
-    number-second e = reached 0 eitherRows (rw (sym lies ∙ e) (or-true (within (readCube w b) (readCube w a)))) ∙ pair-passed w a b r is silent eitherRows h
+    pub number-second : lies_in a b ≡ true → silent yes ≡ wider_number w a b
+    unfolding wider_number
+    number-second e = reached 0 either_rows (rw (sym lies ∙ e) (or-true (within (read_cube w b) (read_cube w a)))) ∙ pair-passed w a b r is silent either_rows h
 
-    pub number-neither : liesIn b a ≡ false → liesIn a b ≡ false → silent no ≡ wider-number w a b
-    unfolding wider-number
-    number-neither d e = reached 1 eitherRows (rw (sym holds ∙ d, sym lies ∙ e), tt) ∙ pair-passed w a b r is silent eitherRows h
+    pub number-neither : lies_in b a ≡ false → lies_in a b ≡ false → silent no ≡ wider_number w a b
+    unfolding wider_number
+    number-neither d e = reached 1 either_rows (rw (sym holds ∙ d, sym lies ∙ e), tt) ∙ pair-passed w a b r is silent either_rows h
 
-    pub wider-first : liesIn b a ≡ true → first ≡ wider w a b
+    pub wider-first : lies_in b a ≡ true → first ≡ wider w a b
     unfolding wider
-    wider-first e = reached 0 widerRows (sym holds ∙ e) ∙ pair-passed w a b r is (λ _. neither) widerRows h
+    wider-first e = reached 0 wider_rows (sym holds ∙ e) ∙ pair-passed w a b r is (λ _. neither) wider_rows h
 
-    pub wider-second : liesIn b a ≡ false → liesIn a b ≡ true → second ≡ wider w a b
+    pub wider-second : lies_in b a ≡ false → lies_in a b ≡ true → second ≡ wider w a b
     unfolding wider
-    wider-second d e = reached 1 widerRows (sym holds ∙ d, sym lies ∙ e) ∙ pair-passed w a b r is (λ _. neither) widerRows h
+    wider-second d e = reached 1 wider_rows (sym holds ∙ d, sym lies ∙ e) ∙ pair-passed w a b r is (λ _. neither) wider_rows h
 
-    pub wider-neither : liesIn b a ≡ false → liesIn a b ≡ false → neither ≡ wider w a b
+    pub wider-neither : lies_in b a ≡ false → lies_in a b ≡ false → neither ≡ wider w a b
     unfolding wider
-    wider-neither d e = reached 2 widerRows (sym holds ∙ d, (sym lies ∙ e, tt)) ∙ pair-passed w a b r is (λ _. neither) widerRows h
+    wider-neither d e = reached 2 wider_rows (sym holds ∙ d, (sym lies ∙ e, tt)) ∙ pair-passed w a b r is (λ _. neither) wider_rows h
 
-    meeting : shares (codes a) (codes b) ≡ shares (readCube w a) (readCube w b)
+    meeting : shares (codes a) (codes b) ≡ shares (read_cube w a) (read_cube w b)
     meeting =
         let p = pair-lent w a b r is h in
         let k = lent-clean w a p.0 in
         let m = lent-clean w b p.1 in
         read-shares w a b k.0 m.0 k.1 m.1
 
-    pub meet-apart : (room : ℕ) → shares (codes a) (codes b) ≡ false → silent no ≡ cube-meet w a b room
-    unfolding cube-meet
-    meet-apart room e = reached 0 (meetRows room) (ap not (sym meeting ∙ e)) ∙ pair-passed w a b r is silent (meetRows room) h
+    pub meet-apart : (room : ℕ) → shares (codes a) (codes b) ≡ false → silent no ≡ cube_meet w a b room
+    unfolding cube_meet
+    meet-apart room e = reached 0 (meet_rows room) (ap not (sym meeting ∙ e)) ∙ pair-passed w a b r is silent (meet_rows room) h
 
     module _ (bytes : Bytes a) (e : shares (codes a) (codes b) ≡ true) where
-      written : writeCube (meet (readCube w a) (readCube w b)) ≡ andBytes a b
+      written : write_cube (meet (read_cube w a) (read_cube w b)) ≡ and_bytes a b
       written =
           let p = pair-lent w a b r is h in
           let k = lent-clean w a p.0 in
           let m = lent-clean w b p.1 in
           read-meet w a b k.0 m.0 k.1 m.1 bytes
 
-      size : length (writeCube (meet (readCube w a) (readCube w b))) ≡ length a
+      size : length (write_cube (meet (read_cube w a) (read_cube w b))) ≡ length a
       size = ap length written ∙ length-and a b one_size
 
-      pub meet-short : (room : ℕ) → room < length a → silent (refused 22) ≡ cube-meet w a b room
-      unfolding cube-meet
+      pub meet-short : (room : ℕ) → room < length a → silent (refused 22) ≡ cube_meet w a b room
+      unfolding cube_meet
       meet-short room l =
           let s = size in
-          reached 1 (meetRows room) (ap not (sym meeting ∙ e), omega arith) ∙ pair-passed w a b r is silent (meetRows room) h
+          reached 1 (meet_rows room) (ap not (sym meeting ∙ e), omega arith) ∙ pair-passed w a b r is silent (meet_rows room) h
 
-      pub meet-written : (room : ℕ) → length a ≤ room → wroteBytes (length a) (andBytes a b) ≡ cube-meet w a b room
-      unfolding cube-meet
+      pub meet-written : (room : ℕ) → length a ≤ room → wrote_bytes (length a) (and_bytes a b) ≡ cube_meet w a b room
+      unfolding cube_meet
       meet-written room l =
           let s = size in
-          ap₂ wroteBytes (sym size) (sym written)
-          ∙ reached 2 (meetRows room) (ap not (sym meeting ∙ e), (omega arith, tt)) ∙ pair-passed w a b r is silent (meetRows room) h
+          ap₂ wrote_bytes (sym size) (sym written)
+          ∙ reached 2 (meet_rows room) (ap not (sym meeting ∙ e), (omega arith, tt)) ∙ pair-passed w a b r is silent (meet_rows room) h
 
 -- the wider of two references
 abbrev rank : Which → ℕ

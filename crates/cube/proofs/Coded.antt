@@ -16,7 +16,7 @@ use lib.Dec.{lit<}
 use lib.ListN.{length, get_or, set, get_or-eq_default}
 use Rattle.model.specs.Cube.{Cube}
 use Rattle.model.specs.Padding.{pad}
-use Rattle.format.specs.Bytes.{Bytes, cubeLen, code_of, codes, cubeBytes, writeCube, unused}
+use Rattle.format.specs.Bytes.{Bytes, cube_len, code_of, codes, cube_bytes, write_cube, unused}
 use Rattle.format.proofs.Coding.{write-padded, write_bytes, codes-tell, four-codes}
 use Rattle.cube.specs.Code.{code_at, recoded}
 use Rattle.cube.proofs.Codes.{below4}
@@ -85,8 +85,8 @@ codes-set (b ∷ bs) (suc (suc (suc (suc p)))) v h k =
     rw (q, r)
     (ap (λ (l : Cube). code_of (b / 64 % 4) ∷ code_of (b / 16 % 4) ∷ code_of (b / 4 % 4) ∷ code_of (b % 4) ∷ l) (codes-set bs p v (omega arith) k))
 
-pub bytes-are : (w : ℕ) (b : List ℕ) (c : Cube) → Bytes b → length c ≡ w → codes b ≡ pad (unused w) c → b ≡ writeCube c
+pub bytes-are : (w : ℕ) (b : List ℕ) (c : Cube) → Bytes b → length c ≡ w → codes b ≡ pad (unused w) c → b ≡ write_cube c
 bytes-are w b c h l e =
-    let q : cubeLen (length c) ≡ cubeLen w = ap cubeLen l in
-    let f : 4 * cubeLen w - length c ≡ unused w = omega arith in
-    rw q (codes-tell b (cubeBytes (cubeLen w) c) h (write_bytes (cubeLen w) c) (e ∙ sym (rw f at (write-padded (cubeLen w) c (omega arith)))))
+    let q : cube_len (length c) ≡ cube_len w = ap cube_len l in
+    let f : 4 * cube_len w - length c ≡ unused w = omega arith in
+    rw q (codes-tell b (cube_bytes (cube_len w) c) h (write_bytes (cube_len w) c) (e ∙ sym (rw f at (write-padded (cube_len w) c (omega arith)))))

@@ -15,10 +15,10 @@ use lib.Bits.{bit_and, and_shr, and_mod, and_le_l}
 use lib.Dec.{lit<, eqb}
 use lib.ListN.{length, drop}
 use borrow.Author.Tests.{eq-eqb, ne_eqb}
-use Rattle.model.specs.Cube.{Code, none, v0, v1, free, Cube, meetCode, meet, coded, solid, shares, same, within}
+use Rattle.model.specs.Cube.{Code, none, v0, v1, free, Cube, meet_code, meet, coded, solid, shares, same, within}
 use Rattle.model.proofs.Cubes.{same-is, same_self}
-use Rattle.format.specs.Bytes.{code_of, codes, quad, isFree, allFree}
-use Rattle.cube.specs.Pair.{andBytes}
+use Rattle.format.specs.Bytes.{code_of, codes, quad, is_free, all_free}
+use Rattle.cube.specs.Pair.{and_bytes}
 use Rattle.cube.proofs.Octets.{quad-codes}
 
 pub codes-append : (a b : List ℕ) → codes (a ++ b) ≡ codes a ++ codes b
@@ -35,9 +35,9 @@ pub solid-append : (a b : Cube) → solid (a ++ b) ≡ solid a && solid b
 solid-append [] b = refl
 solid-append (x ∷ a) b = ap (λ (t : Bool). coded x && t) (solid-append a b) ∙ sym (and_assoc (coded x) (solid a) (solid b))
 
-pub free-append : (a b : Cube) → allFree (a ++ b) ≡ allFree a && allFree b
+pub free-append : (a b : Cube) → all_free (a ++ b) ≡ all_free a && all_free b
 free-append [] b = refl
-free-append (x ∷ a) b = ap (λ (t : Bool). isFree x && t) (free-append a b) ∙ sym (and_assoc (isFree x) (allFree a) (allFree b))
+free-append (x ∷ a) b = ap (λ (t : Bool). is_free x && t) (free-append a b) ∙ sym (and_assoc (is_free x) (all_free a) (all_free b))
 
 pub below4 : (P : ℕ → Type 0) → P 0 → P 1 → P 2 → P 3 → (n : ℕ) → n < 4 → P n
 below4 P p0 p1 p2 p3 zero h = p0
@@ -47,33 +47,33 @@ below4 P p0 p1 p2 p3 (suc (suc (suc zero))) h = p3
 below4 P p0 p1 p2 p3 (suc (suc (suc (suc n)))) h = absurd (omega arith)
 
 -- the meet
-pub four-and : (m n : ℕ) → m < 4 → n < 4 → code_of (bit_and m n) ≡ meetCode (code_of m) (code_of n)
+pub four-and : (m n : ℕ) → m < 4 → n < 4 → code_of (bit_and m n) ≡ meet_code (code_of m) (code_of n)
 four-and m n hm hn =
-    below4 (λ (k : ℕ). code_of (bit_and k n) ≡ meetCode (code_of k) (code_of n))
-    (below4 (λ (k : ℕ). code_of (bit_and 0 k) ≡ meetCode none (code_of k)) refl refl refl refl n hn)
-    (below4 (λ (k : ℕ). code_of (bit_and 1 k) ≡ meetCode v0 (code_of k)) refl refl refl refl n hn)
-    (below4 (λ (k : ℕ). code_of (bit_and 2 k) ≡ meetCode v1 (code_of k)) refl refl refl refl n hn)
-    (below4 (λ (k : ℕ). code_of (bit_and 3 k) ≡ meetCode free (code_of k)) refl refl refl refl n hn)
+    below4 (λ (k : ℕ). code_of (bit_and k n) ≡ meet_code (code_of k) (code_of n))
+    (below4 (λ (k : ℕ). code_of (bit_and 0 k) ≡ meet_code none (code_of k)) refl refl refl refl n hn)
+    (below4 (λ (k : ℕ). code_of (bit_and 1 k) ≡ meet_code v0 (code_of k)) refl refl refl refl n hn)
+    (below4 (λ (k : ℕ). code_of (bit_and 2 k) ≡ meet_code v1 (code_of k)) refl refl refl refl n hn)
+    (below4 (λ (k : ℕ). code_of (bit_and 3 k) ≡ meet_code free (code_of k)) refl refl refl refl n hn)
     m hm
 
 -- the code at the place of weight 2 ^ k
-code-and : (k a b : ℕ) → code_of (bit_and a b / 2 ^ k % 4) ≡ meetCode (code_of (a / 2 ^ k % 4)) (code_of (b / 2 ^ k % 4))
+code-and : (k a b : ℕ) → code_of (bit_and a b / 2 ^ k % 4) ≡ meet_code (code_of (a / 2 ^ k % 4)) (code_of (b / 2 ^ k % 4))
 code-and k a b =
     ap (λ (x : ℕ). code_of (x % 4)) (and_shr a b k)
     ∙ ap code_of (and_mod (a / 2 ^ k) (b / 2 ^ k) 2)
     ∙ four-and (a / 2 ^ k % 4) (b / 2 ^ k % 4) (mod-lt (a / 2 ^ k) (lit< tt)) (mod-lt (b / 2 ^ k) (lit< tt))
 
 -- the last place, where nothing is shifted
-code-and-last : (a b : ℕ) → code_of (bit_and a b % 4) ≡ meetCode (code_of (a % 4)) (code_of (b % 4))
+code-and-last : (a b : ℕ) → code_of (bit_and a b % 4) ≡ meet_code (code_of (a % 4)) (code_of (b % 4))
 code-and-last a b = ap code_of (and_mod a b 2) ∙ four-and (a % 4) (b % 4) (mod-lt a (lit< tt)) (mod-lt b (lit< tt))
 
-pub codes-and : (a b : List ℕ) → length a ≡ length b → codes (andBytes a b) ≡ meet (codes a) (codes b)
+pub codes-and : (a b : List ℕ) → length a ≡ length b → codes (and_bytes a b) ≡ meet (codes a) (codes b)
 codes-and [] [] l = refl
 codes-and [] (y ∷ b) l = absurd (omega arith)
 codes-and (x ∷ a) [] l = absurd (omega arith)
 codes-and (x ∷ a) (y ∷ b) l = simp (code-and 6 x y, code-and 4 x y, code-and 2 x y, code-and-last x y, codes-and a b (omega arith))
 
-pub length-and : (a b : List ℕ) → length a ≡ length b → length (andBytes a b) ≡ length a
+pub length-and : (a b : List ℕ) → length a ≡ length b → length (and_bytes a b) ≡ length a
 length-and [] b l = refl
 length-and (x ∷ a) [] l = absurd (omega arith)
 length-and (x ∷ a) (y ∷ b) l = ap suc (length-and a b (omega arith))
@@ -86,9 +86,9 @@ shares-apart [] [] n = absurd (n refl)
 shares-apart [] (y ∷ b) n = refl
 shares-apart (x ∷ a) [] n = refl
 shares-apart (x ∷ a) (y ∷ b) n =
-    ap (λ (t : Bool). coded (meetCode x y) && t) (shares-apart a b (λ e. n (ap suc e))) ∙ and-false (coded (meetCode x y))
+    ap (λ (t : Bool). coded (meet_code x y) && t) (shares-apart a b (λ e. n (ap suc e))) ∙ and-false (coded (meet_code x y))
 
-code-self : (x : Code) → meetCode x x ≡ x
+code-self : (x : Code) → meet_code x x ≡ x
 code-self none = refl
 code-self v0 = refl
 code-self v1 = refl

@@ -1,10 +1,10 @@
 -- What is wrong with a cube's bytes, by parts: the bytes that hold positions alone, the byte that holds the last positions and the first unused places, and
 -- the bytes after it.
 --   fill q              == a byte whose places from the q-th on are filled
---   byteRows b ones     == the tests of the byte b whose unused places are filled in `ones`
+--   byte_rows b ones     == the tests of the byte b whose unused places are filled in `ones`
 --   byte-fault, free-byte    what is wrong with a byte of q positions; with one whose places are all 3, nothing
 --   short-fault         what is wrong with bytes that hold positions alone
---   partRows w c        == the tests of the three parts of c
+--   part_rows w c        == the tests of the three parts of c
 --   cube-parts          they say what is wrong with c
 --   lent_length, lent-cube    a lent cube whose length is wrong, and one whose length is right
 use mathlib.Core.Path.{◌≡◌, refl, sym, ap, ◌∙◌}
@@ -19,7 +19,7 @@ use lib.Seq.{take_all, length-take-le}
 use borrow.Author.Tests.{eq-eqb}
 use Rattle.model.specs.Cube.{solid}
 use Rattle.format.specs.Rows.{Rows, last, row, isnt, so, passes, outcome}
-use Rattle.format.specs.Bytes.{cubeLen, codes, readCube, allFree, cubeFault, lentRows, lentFault}
+use Rattle.format.specs.Bytes.{cube_len, codes, read_cube, all_free, cube_fault, lent_rows, lent_fault}
 use Rattle.format.proofs.Reached.{reached}
 use Rattle.format.proofs.Coding.{length-codes}
 use Rattle.cube.proofs.Every.{below, below2}
@@ -30,24 +30,24 @@ use Rattle.cube.proofs.Codes.{codes-append, solid-append, free-append}
 abbrev pub fill : ℕ → ℕ
 fill q = 255 / 2 ^ (2 * q)
 
-abbrev pub byteRows : ℕ → ℕ → Rows ℕ
-byteRows b ones =
+abbrev pub byte_rows : ℕ → ℕ → Rows ℕ
+byte_rows b ones =
     row (so (not (solid (codes (bit_or b ones ∷ []))))) 13
     (row (isnt (bit_and b ones) ones) 14
     (last 0))
 
-pub byte-fault : (q b : ℕ) → q < 4 → b < 256 → outcome (byteRows b (fill q)) ≡ cubeFault q (b ∷ [])
-unfolding outcome passes readCube cubeFault
+pub byte-fault : (q b : ℕ) → q < 4 → b < 256 → outcome (byte_rows b (fill q)) ≡ cube_fault q (b ∷ [])
+unfolding outcome passes read_cube cube_fault
 byte-fault q b h k =
-    eqb→eq (outcome (byteRows b (fill q))) (cubeFault q (b ∷ [])) (below2 4 256 (λ j x. eqb (outcome (byteRows x (fill j))) (cubeFault j (x ∷ []))) tt q b h k)
+    eqb→eq (outcome (byte_rows b (fill q))) (cube_fault q (b ∷ [])) (below2 4 256 (λ j x. eqb (outcome (byte_rows x (fill j))) (cube_fault j (x ∷ []))) tt q b h k)
 
-pub free-byte : (q b : ℕ) → q < 4 → b ≡ 255 → 0 ≡ cubeFault q (b ∷ [])
-unfolding outcome passes readCube cubeFault
-free-byte q b h e = rw e (eqb→eq 0 (cubeFault q (255 ∷ [])) (below 4 (λ j. eqb 0 (cubeFault j (255 ∷ []))) tt q h))
+pub free-byte : (q b : ℕ) → q < 4 → b ≡ 255 → 0 ≡ cube_fault q (b ∷ [])
+unfolding outcome passes read_cube cube_fault
+free-byte q b h e = rw e (eqb→eq 0 (cube_fault q (255 ∷ [])) (below 4 (λ j. eqb 0 (cube_fault j (255 ∷ []))) tt q h))
 
 -- no byte past the positions
-pub short-fault : (w : ℕ) (c : List ℕ) → length c ≤ w / 4 → (t : Bool) → solid (codes c) ≡ t → cond t 0 13 ≡ cubeFault w c
-unfolding outcome passes readCube cubeFault
+pub short-fault : (w : ℕ) (c : List ℕ) → length c ≤ w / 4 → (t : Bool) → solid (codes c) ≡ t → cond t 0 13 ≡ cube_fault w c
+unfolding outcome passes read_cube cube_fault
 short-fault w c h t e =
     let l = length-codes c in
     rw (take_all w (codes c) (omega arith), drop_of_length-le (codes c) {i = w} (omega arith), e) (go t)
@@ -57,11 +57,11 @@ short-fault w c h t e =
     go false = refl
 
 -- the bytes that hold four positions each, the byte behind them, and the bytes after it
-abbrev pub partRows : ℕ → List ℕ → Rows ℕ
-partRows w c =
+abbrev pub part_rows : ℕ → List ℕ → Rows ℕ
+part_rows w c =
     row (so (not (solid (codes (take (w / 4) c))))) 13
-    (row (isnt (cubeFault (w % 4) (get_or c (w / 4) 0 ∷ [])) 0) (cubeFault (w % 4) (get_or c (w / 4) 0 ∷ []))
-    (row (so (not (allFree (codes (drop (suc (w / 4)) c))))) 14
+    (row (isnt (cube_fault (w % 4) (get_or c (w / 4) 0 ∷ [])) 0) (cube_fault (w % 4) (get_or c (w / 4) 0 ∷ []))
+    (row (so (not (all_free (codes (drop (suc (w / 4)) c))))) 14
     (last 0)))
 
 abbrev number : Bool → Bool → ℕ
@@ -73,8 +73,8 @@ by_parts true true false v = refl
 by_parts true false u v = refl
 by_parts false t u v = refl
 
-pub cube-parts : (w : ℕ) (c : List ℕ) → w / 4 < length c → outcome (partRows w c) ≡ cubeFault w c
-unfolding outcome passes readCube cubeFault
+pub cube-parts : (w : ℕ) (c : List ℕ) → w / 4 < length c → outcome (part_rows w c) ≡ cube_fault w c
+unfolding outcome passes read_cube cube_fault
 cube-parts w c h =
     let k = length-codes (take (w / 4) c) in
     let n = length-take-le (w / 4) c (omega arith) in
@@ -82,14 +82,14 @@ cube-parts w c h =
     let front = codes (take (w / 4) c) in
     let rest = codes (drop (suc (w / 4)) c) in
     let used = ap solid (take-parts codes codes-append c (w / 4) (w % 4) h (omega arith) w (omega arith)) ∙ solid-append front (take (w % 4) b) in
-    let unused = ap allFree (drop-parts codes codes-append c (w / 4) (w % 4) h (omega arith) w (omega arith)) ∙ free-append (drop (w % 4) b) rest in
-    sym (rw (used, unused) (by_parts (solid front) (solid (take (w % 4) b)) (allFree (drop (w % 4) b)) (allFree rest)))
+    let unused = ap all_free (drop-parts codes codes-append c (w / 4) (w % 4) h (omega arith) w (omega arith)) ∙ free-append (drop (w % 4) b) rest in
+    sym (rw (used, unused) (by_parts (solid front) (solid (take (w % 4) b)) (all_free (drop (w % 4) b)) (all_free rest)))
 
 -- a lent cube
-pub lent_length : (w : ℕ) (c : List ℕ) → (length c ≡ cubeLen w → ⊥) → 12 ≡ lentFault w c
-unfolding lentFault
-lent_length w c n = reached 0 (lentRows w c) n
+pub lent_length : (w : ℕ) (c : List ℕ) → (length c ≡ cube_len w → ⊥) → 12 ≡ lent_fault w c
+unfolding lent_fault
+lent_length w c n = reached 0 (lent_rows w c) n
 
-pub lent-cube : (w : ℕ) (c : List ℕ) → length c ≡ cubeLen w → cubeFault w c ≡ lentFault w c
-unfolding outcome passes cubeFault lentFault
-lent-cube w c e = rw (eq-eqb (length c) (cubeLen w) e)
+pub lent-cube : (w : ℕ) (c : List ℕ) → length c ≡ cube_len w → cube_fault w c ≡ lent_fault w c
+unfolding outcome passes cube_fault lent_fault
+lent-cube w c e = rw (eq-eqb (length c) (cube_len w) e)

@@ -1,6 +1,6 @@
 -- Bytes laid into a buffer.
 --   put-fits, put-long       where the bytes fit they are laid, and else nothing is
---   put_front                bytes that fit at the front stand there
+--   put-front                bytes that fit at the front stand there
 --   pasted                   bytes copied one by one from the first to the last are laid
 --   over-byte, over-more     laying one byte more, and one part more
 --   tail-back                what a buffer holds when a callee laid bytes over the front of the part that was lent to it
@@ -31,8 +31,8 @@ module _ (old : List ℕ) (o : ℕ) (new : List ℕ) where
   pasted = rw (take-length new, ← drop-drop (length new) o old, append_assoc)
 
 -- bytes put at the front of a buffer
-pub put_front : (old new : List ℕ) (n : ℕ) → length new ≡ n → n ≤ length old → take n (put old 0 new) ≡ new
-put_front old new n e h = rw (put-fits old 0 new (omega arith)) (take_at new (drop (length new) old) n e)
+pub put-front : (old new : List ℕ) (n : ℕ) → length new ≡ n → n ≤ length old → take n (put old 0 new) ≡ new
+put-front old new n e h = rw (put-fits old 0 new (omega arith)) (take_at new (drop (length new) old) n e)
 
 pub over-byte : (old new : List ℕ) (v n : ℕ) → length new ≡ n → n < length old → set (over old new) n v ≡ over old (new ++ (v ∷ []))
 over-byte old new v n e h =

@@ -9,15 +9,15 @@ use native.Mathlib.Omega.{arith}
 use lib.ListN.{length, take, drop, replicate, length-append, length-drop, length-replicate}
 use lib.Seq.{length-take-le, take-append-le, take-take, take-add}
 use Rattle.model.specs.Cube.{Header, v0, Cube, holds, within}
-use Rattle.model.specs.Fields.{bitCode}
+use Rattle.model.specs.Fields.{bit_code}
 use Rattle.model.specs.Padding.{pad}
 use Rattle.model.proofs.Padding.{holds-pad}
 use Rattle.format.specs.Limits.{widest}
-use Rattle.format.specs.Bytes.{headerLen, cubeLen, bits, readHeader, code_of, codes, readCube, cubeFault, unused}
+use Rattle.format.specs.Bytes.{header_len, cube_len, bits, read_header, code_of, codes, read_cube, cube_fault, unused}
 use Rattle.format.proofs.Coding.{length-codes, read_length, read-padded}
 use Rattle.format.proofs.Heading.{length-bits}
-use Rattle.cube.specs.Pair.{liesIn}
-use Rattle.cube.specs.Header.{spelledCube}
+use Rattle.cube.specs.Pair.{lies_in}
+use Rattle.cube.specs.Header.{spelled_cube}
 use Rattle.cube.proofs.Pairs.{lies_within}
 use Rattle.cube.proofs.Spelling.{map-append, within-holds}
 
@@ -33,7 +33,7 @@ map-take f zero l = refl
 map-take f (suc n) [] = refl
 map-take {B = B} f (suc n) (x ∷ l) = ap (λ (r : List B). f x ∷ r) (map-take f n l)
 
-map-copies : (n : ℕ) → map bitCode (replicate n false) ≡ replicate n v0
+map-copies : (n : ℕ) → map bit_code (replicate n false) ≡ replicate n v0
 map-copies zero = refl
 map-copies (suc n) = ap (λ (c : Cube). v0 ∷ c) (map-copies n)
 
@@ -41,16 +41,16 @@ map-copies (suc n) = ap (λ (c : Cube). v0 ∷ c) (map-copies n)
 filled : ℕ → List ℕ → Header
 filled n h = bits h ++ replicate n false
 
-spelled-bits : (n m : ℕ) (h : List ℕ) → take n (map bitCode (bits h) ++ replicate m v0) ≡ map bitCode (take n (filled m h))
+spelled-bits : (n m : ℕ) (h : List ℕ) → take n (map bit_code (bits h) ++ replicate m v0) ≡ map bit_code (take n (filled m h))
 unfolding filled
 spelled-bits n m h =
-    ap (take n) (ap (λ (c : Cube). map bitCode (bits h) ++ c) (sym (map-copies m)) ∙ sym (map-append bitCode (bits h) (replicate m false)))
-    ∙ map-take bitCode n (bits h ++ replicate m false)
+    ap (take n) (ap (λ (c : Cube). map bit_code (bits h) ++ c) (sym (map-copies m)) ∙ sym (map-append bit_code (bits h) (replicate m false)))
+    ∙ map-take bit_code n (bits h ++ replicate m false)
 
 -- of n bits the first w are the header's, and u stand behind them
-bits-split : (w u m : ℕ) (h : List ℕ) → length h ≡ headerLen w
-    → take (w + u) (filled m h) ≡ readHeader w h ++ take u (drop w (filled m h))
-unfolding filled readHeader
+bits-split : (w u m : ℕ) (h : List ℕ) → length h ≡ header_len w
+    → take (w + u) (filled m h) ≡ read_header w h ++ take u (drop w (filled m h))
+unfolding filled read_header
 bits-split w u m h l =
     let k = length-bits h in
     take-add w u (bits h ++ replicate m false)
@@ -64,34 +64,34 @@ rest-length w u m h l =
     let d = length-drop w (bits h ++ replicate m false) in
     length-take-le u (drop w (bits h ++ replicate m false)) (omega arith)
 
-header-sized : (w : ℕ) (h : List ℕ) → length h ≡ headerLen w → length (readHeader w h) ≡ w
-unfolding readHeader
+header-sized : (w : ℕ) (h : List ℕ) → length h ≡ header_len w → length (read_header w h) ≡ w
+unfolding read_header
 header-sized w h l = let k = length-bits h in length-take-le w (bits h) (omega arith)
 
-spelled-length : (s h : List ℕ) → codes s ≡ spelledCube h → length s ≡ 80
-unfolding spelledCube
+spelled-length : (s h : List ℕ) → codes s ≡ spelled_cube h → length s ≡ 80
+unfolding spelled_cube
 spelled-length s h e =
     let k = length-codes s in
-    let a = length-append (map bitCode (bits h)) (replicate widest v0) in
+    let a = length-append (map bit_code (bits h)) (replicate widest v0) in
     let n = length-replicate widest v0 in
-    let m = ap length e ∙ length-take-le widest (map bitCode (bits h) ++ replicate widest v0) (omega arith) in
+    let m = ap length e ∙ length-take-le widest (map bit_code (bits h) ++ replicate widest v0) (omega arith) in
     omega arith
 
-spelled-front : (n m : ℕ) (s h : List ℕ) → n ≤ m → codes s ≡ take m (map bitCode (bits h) ++ replicate m v0) → take n (codes s) ≡ map bitCode (take n (filled m h))
-spelled-front n m s h l e = ap (take n) e ∙ take-take n m (map bitCode (bits h) ++ replicate m v0) l ∙ spelled-bits n m h
+spelled-front : (n m : ℕ) (s h : List ℕ) → n ≤ m → codes s ≡ take m (map bit_code (bits h) ++ replicate m v0) → take n (codes s) ≡ map bit_code (take n (filled m h))
+spelled-front n m s h l e = ap (take n) e ∙ take-take n m (map bit_code (bits h) ++ replicate m v0) l ∙ spelled-bits n m h
 
-pub spelled-in : (w : ℕ) (h s c : List ℕ) → w ≤ widest → length h ≡ headerLen w → codes s ≡ spelledCube h → length c ≡ cubeLen w → cubeFault w c ≡ 0
-    → liesIn (take (cubeLen w) s) c ≡ holds (readCube w c) (readHeader w h)
-unfolding spelledCube
+pub spelled-in : (w : ℕ) (h s c : List ℕ) → w ≤ widest → length h ≡ header_len w → codes s ≡ spelled_cube h → length c ≡ cube_len w → cube_fault w c ≡ 0
+    → lies_in (take (cube_len w) s) c ≡ holds (read_cube w c) (read_header w h)
+unfolding spelled_cube
 spelled-in w h s c l lh e lc f =
-    let n = cubeLen w in
+    let n = cube_len w in
     let u = unused w in
     let k = spelled-length s h e in
     let m = length-take-le n s (omega arith) in
     let four : 4 * n ≡ w + u = omega arith in
-    let front : codes (take n s) ≡ map bitCode (take (w + u) (filled widest h)) =
+    let front : codes (take n s) ≡ map bit_code (take (w + u) (filled widest h)) =
     codes-take n s ∙ ap (λ (j : ℕ). take j (codes s)) four ∙ spelled-front (w + u) widest s h (omega arith) e in
     sym (lies_within (take n s) c (m ∙ sym lc)) ∙ ap₂ within front (read-padded w c lc f)
-    ∙ within-holds (take (w + u) (filled widest h)) (pad u (readCube w c))
-    ∙ ap (holds (pad u (readCube w c))) (bits-split w u widest h lh)
-    ∙ holds-pad u (readCube w c) (readHeader w h) (take u (drop w (filled widest h))) (header-sized w h lh ∙ sym (read_length w c lc)) (rest-length w u widest h (omega arith))
+    ∙ within-holds (take (w + u) (filled widest h)) (pad u (read_cube w c))
+    ∙ ap (holds (pad u (read_cube w c))) (bits-split w u widest h lh)
+    ∙ holds-pad u (read_cube w c) (read_header w h) (take u (drop w (filled widest h))) (header-sized w h lh ∙ sym (read_length w c lc)) (rest-length w u widest h (omega arith))

@@ -11,7 +11,7 @@ use Prim.Native.Nat.{ℕ, ◌/◌, ◌<◌}
 use lib.Bits.{bit_and, bit_or, bit_xor}
 use lib.Dec.{eqb, eqb→eq}
 use Rattle.model.specs.Cube.{solid}
-use Rattle.format.specs.Bytes.{bits, anyBit, codes, quad, allFree}
+use Rattle.format.specs.Bytes.{bits, any_bit, codes, quad, all_free}
 use Rattle.cube.proofs.Every.{below, agree, agree-eq}
 
 abbrev pub gaps : ℕ → ℕ
@@ -21,13 +21,13 @@ pub gaps-solid : (x : ℕ) → x < 256 → eqb (gaps x) 0 ≡ solid (codes (x �
 gaps-solid x h =
     agree-eq (eqb (gaps x) 0) (solid (codes (x ∷ []))) (below 256 (λ k. agree (eqb (gaps k) 0) (solid (codes (k ∷ [])))) tt x h)
 
-pub full-free : (x : ℕ) → x < 256 → eqb (bit_xor x 255) 0 ≡ allFree (codes (x ∷ []))
+pub full-free : (x : ℕ) → x < 256 → eqb (bit_xor x 255) 0 ≡ all_free (codes (x ∷ []))
 full-free x h =
-    agree-eq (eqb (bit_xor x 255) 0) (allFree (codes (x ∷ []))) (below 256 (λ k. agree (eqb (bit_xor k 255) 0) (allFree (codes (k ∷ [])))) tt x h)
+    agree-eq (eqb (bit_xor x 255) 0) (all_free (codes (x ∷ []))) (below 256 (λ k. agree (eqb (bit_xor k 255) 0) (all_free (codes (k ∷ [])))) tt x h)
 
-pub zero_clear : (x : ℕ) → x < 256 → eqb x 0 ≡ not (anyBit (bits (x ∷ [])))
+pub zero_clear : (x : ℕ) → x < 256 → eqb x 0 ≡ not (any_bit (bits (x ∷ [])))
 zero_clear x h =
-    agree-eq (eqb x 0) (not (anyBit (bits (x ∷ [])))) (below 256 (λ k. agree (eqb k 0) (not (anyBit (bits (k ∷ []))))) tt x h)
+    agree-eq (eqb x 0) (not (any_bit (bits (x ∷ [])))) (below 256 (λ k. agree (eqb k 0) (not (any_bit (bits (k ∷ []))))) tt x h)
 
 pub quad-codes : (x : ℕ) → x < 256 → quad (codes (x ∷ [])) ≡ x
 quad-codes x h = eqb→eq (quad (codes (x ∷ []))) x (below 256 (λ k. eqb (quad (codes (k ∷ []))) k) tt x h)

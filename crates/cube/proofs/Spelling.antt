@@ -15,17 +15,17 @@ use lib.Dec.{T, leb}
 use lib.ListN.{length, get_or, take, drop, set, replicate, length-append, length-map, take-append-drop}
 use lib.Seq.{length-take-le, take-suc, take_all, take_at, take-append-add, set_at}
 use borrow.Author.Tests.{leb-true, leb-false}
-use Rattle.model.specs.Cube.{Header, Code, none, v0, v1, free, Cube, admits, holds, meetCode, sameCode, same, within}
-use Rattle.model.specs.Fields.{bitCode}
+use Rattle.model.specs.Cube.{Header, Code, none, v0, v1, free, Cube, admits, holds, meet_code, same_code, same, within}
+use Rattle.model.specs.Fields.{bit_code}
 use Rattle.model.proofs.Cubes.{same-is}
 use Rattle.format.specs.Bytes.{bits, codes}
 use Rattle.format.proofs.Heading.{length-bits}
-use Rattle.cube.specs.Header.{spelledCube}
+use Rattle.cube.specs.Header.{spelled_cube}
 use Rattle.cube.proofs.Every.{below}
 use Rattle.cube.proofs.Codes.{codes-append}
 use Rattle.cube.proofs.Headers.{bits-append}
 
-bit-within : (b : Bool) (x : Code) → sameCode (meetCode (bitCode b) x) (bitCode b) ≡ admits x b
+bit-within : (b : Bool) (x : Code) → same_code (meet_code (bit_code b) x) (bit_code b) ≡ admits x b
 bit-within true none = refl
 bit-within true v0 = refl
 bit-within true v1 = refl
@@ -35,7 +35,7 @@ bit-within false v0 = refl
 bit-within false v1 = refl
 bit-within false free = refl
 
-pub within-holds : (h : Header) (c : Cube) → within (map bitCode h) c ≡ holds c h
+pub within-holds : (h : Header) (c : Cube) → within (map bit_code h) c ≡ holds c h
 within-holds [] [] = refl
 within-holds [] (x ∷ c) = refl
 within-holds (true ∷ h) [] = refl
@@ -49,7 +49,7 @@ map-append f [] b = refl
 map-append {B = B} f (x ∷ a) b = ap (λ (r : List B). f x ∷ r) (map-append f a b)
 
 abbrev pub four : ℕ → Cube
-four b = map bitCode (drop 4 (bits (b ∷ [])))
+four b = map bit_code (drop 4 (bits (b ∷ [])))
 
 true-T : (t : Bool) → T t → t ≡ true
 true-T true e = refl
@@ -58,10 +58,10 @@ true-T false e = absurd e
 pub same-T : (a b : Cube) → T (same a b) → a ≡ b
 same-T a b t = same-is a b (true-T (same a b) t)
 
-two-fours : (b : ℕ) → b < 256 → four (b / 16) ++ four (b % 16) ≡ map bitCode (bits (b ∷ []))
+two-fours : (b : ℕ) → b < 256 → four (b / 16) ++ four (b % 16) ≡ map bit_code (bits (b ∷ []))
 two-fours b h =
-    same-T (four (b / 16) ++ four (b % 16)) (map bitCode (bits (b ∷ [])))
-    (below 256 (λ k. same (four (k / 16) ++ four (k % 16)) (map bitCode (bits (k ∷ [])))) tt b h)
+    same-T (four (b / 16) ++ four (b % 16)) (map bit_code (bits (b ∷ [])))
+    (below 256 (λ k. same (four (k / 16) ++ four (k % 16)) (map bit_code (bits (k ∷ [])))) tt b h)
 
 codes-zero : (n : ℕ) → codes (replicate n 0x55) ≡ replicate (4 * n) v0
 codes-zero zero = refl
@@ -76,7 +76,7 @@ take-copies (suc n) (suc m) h = ap (λ (c : Cube). v0 ∷ c) (take-copies n m (o
 
 -- the loop
 abbrev pub Spelt : List ℕ → ℕ → List ℕ → Type 0
-Spelt h i c = (done : List ℕ) × (length done ≡ 2 * i) × (c ≡ done ++ replicate (80 - 2 * i) 0x55) × (codes done ≡ map bitCode (bits (take i h)))
+Spelt h i c = (done : List ℕ) × (length done ≡ 2 * i) × (c ≡ done ++ replicate (80 - 2 * i) 0x55) × (codes done ≡ map bit_code (bits (take i h)))
 
 pub spelt-start : (h : List ℕ) → Spelt h 0 (replicate 80 0x55)
 spelt-start h = ([], refl, refl, refl)
@@ -99,9 +99,9 @@ spelt-turn h c i x y k l byte ex ey s =
     let e : 80 - 2 * i ≡ suc (suc m) = omega arith in
     let n = length-append s.0 (x ∷ y ∷ []) in
     let d = s.1 in
-    let here : codes (x ∷ y ∷ []) ≡ map bitCode (bits (b ∷ [])) = ap₂ (λ (p q : Cube). p ++ q) ex ey ∙ two-fours b byte in
-    let upto : map bitCode (bits (take (i + 1) h)) ≡ map bitCode (bits (take i h)) ++ map bitCode (bits (b ∷ [])) =
-    rw (add-one, take-suc h i 0, bits-append) (map-append bitCode (bits (take i h)) (bits (b ∷ []))) in (
+    let here : codes (x ∷ y ∷ []) ≡ map bit_code (bits (b ∷ [])) = ap₂ (λ (p q : Cube). p ++ q) ex ey ∙ two-fours b byte in
+    let upto : map bit_code (bits (take (i + 1) h)) ≡ map bit_code (bits (take i h)) ++ map bit_code (bits (b ∷ [])) =
+    rw (add-one, take-suc h i 0, bits-append) (map-append bit_code (bits (take i h)) (bits (b ∷ []))) in (
       s.0 ++ (x ∷ y ∷ []),
       omega arith,
       ap (λ (z : List ℕ). set (set z (2 * i) x) (2 * i + 1) y) (s.2 ∙ ap (λ (k : ℕ). s.0 ++ replicate k 0x55) e) ∙ two-set s.0 i m x y d,
@@ -110,10 +110,10 @@ spelt-turn h c i x y k l byte ex ey s =
 
 -- the end: a header of at most n bytes is spelled whole, of a longer one its first n bytes
 abbrev spelt : List ℕ → Cube
-spelt h = map bitCode (bits h)
+spelt h = map bit_code (bits h)
 
 length-spelt : (h : List ℕ) → length (spelt h) ≡ 8 * length h
-length-spelt h = length-map (bits h) bitCode ∙ length-bits h
+length-spelt h = length-map (bits h) bit_code ∙ length-bits h
 
 spelt-whole : (n : ℕ) (h : List ℕ) → length h ≤ n → take (8 * n) (spelt h ++ replicate (8 * n) v0) ≡ spelt h ++ replicate (8 * n - 8 * length h) v0
 spelt-whole n h l =
@@ -127,7 +127,7 @@ spelt-part n h l =
     let k = length-spelt (take n h) in
     let m = length-take-le n h l in
     let both : spelt h ≡ spelt (take n h) ++ spelt (drop n h) =
-    ap spelt (sym (take-append-drop n h)) ∙ ap (map bitCode) (bits-append (take n h) (drop n h)) ∙ map-append bitCode (bits (take n h)) (bits (drop n h)) in
+    ap spelt (sym (take-append-drop n h)) ∙ ap (map bit_code) (bits-append (take n h) (drop n h)) ∙ map-append bit_code (bits (take n h)) (bits (drop n h)) in
     rw (both, append_assoc) (take_at (spelt (take n h)) (spelt (drop n h) ++ replicate (8 * n) v0) (8 * n) (omega arith))
 
 -- i header bytes were spelled, n at most
@@ -146,8 +146,8 @@ spelt-all n i h e = go (leb (length h) n) refl
         let z : 8 * n - 8 * n ≡ 0 = omega arith in
         rw (k, z) (append-nil (spelt (take n h)) ∙ sym (spelt-part n h (omega arith)))
 
-pub spelt-end : (h c : List ℕ) (i : ℕ) → i ≡ min (length h) 40 → Spelt h i c → codes c ≡ spelledCube h
-unfolding spelledCube
+pub spelt-end : (h c : List ℕ) (i : ℕ) → i ≡ min (length h) 40 → Spelt h i c → codes c ≡ spelled_cube h
+unfolding spelled_cube
 spelt-end h c i e s =
     let m : 4 * (80 - 2 * i) ≡ 8 * 40 - 8 * i = omega arith in
     ap codes s.2 ∙ codes-append s.0 (replicate (80 - 2 * i) 0x55)

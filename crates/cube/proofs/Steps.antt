@@ -11,7 +11,7 @@ use native.Mathlib.Omega.{arith}
 use lib.Bits.{bit_and, bit_xor, and_le_l}
 use lib.Dec.{eqb}
 use Rattle.model.specs.Cube.{shares, within}
-use Rattle.format.specs.Bytes.{bits, anyBit, codes, allFree}
+use Rattle.format.specs.Bytes.{bits, any_bit, codes, all_free}
 use Rattle.cube.proofs.Octets.{gaps, gaps-solid, full-free, zero_clear}
 use Rattle.cube.proofs.Codes.{free-append, shares-byte, within-byte}
 use Rattle.cube.proofs.Loops.{xor-zero}
@@ -20,10 +20,10 @@ not-or : (a b : Bool) → not (a || b) ≡ not a && not b
 not-or true b = refl
 not-or false b = refl
 
-pub free_step : (x : ℕ) (a : List ℕ) → x < 256 → allFree (codes (x ∷ a)) ≡ eqb (bit_xor x 255) 0 && allFree (codes a)
-free_step x a h = free-append (codes (x ∷ [])) (codes a) ∙ ap (λ (t : Bool). t && allFree (codes a)) (sym (full-free x h))
+pub free_step : (x : ℕ) (a : List ℕ) → x < 256 → all_free (codes (x ∷ a)) ≡ eqb (bit_xor x 255) 0 && all_free (codes a)
+free_step x a h = free-append (codes (x ∷ [])) (codes a) ∙ ap (λ (t : Bool). t && all_free (codes a)) (sym (full-free x h))
 
-pub set-step : (x : ℕ) (a : List ℕ) → x < 256 → not (anyBit (bits (x ∷ a))) ≡ eqb x 0 && not (anyBit (bits a))
+pub set-step : (x : ℕ) (a : List ℕ) → x < 256 → not (any_bit (bits (x ∷ a))) ≡ eqb x 0 && not (any_bit (bits a))
 set-step x a h = simp (zero_clear x h, ← not-or, or_assoc)
 
 pub shares-step : (x y : ℕ) (a b : List ℕ) → x < 256 → shares (codes (x ∷ a)) (codes (y ∷ b)) ≡ eqb (gaps (bit_and x y)) 0 && shares (codes a) (codes b)

@@ -1,17 +1,17 @@
 -- Cubes of whole bytes: the codes of q bytes, so that an unused place is one more free position, which changes nothing.
---   cubeOf q bs              == the cube in the first q bytes of bs
+--   cube_of q bs              == the cube in the first q bytes of bs
 --   whole_at q s at           == the cube of q bytes that stands in s at an offset
---   wholesAt q s at n        == n such cubes, from an offset on
+--   wholes_at q s at n        == n such cubes, from an offset on
 use Rattle.std.specs.Prelude.{ℕ, zero, suc, ◌+◌, List, [], ◌∷◌, take, drop}
 use Rattle.model.specs.Cube.{Cube}
 use Rattle.format.specs.Bytes.{codes}
 
-unfoldable pub cubeOf : ℕ → List ℕ → Cube
-cubeOf q bs = codes (take q bs)
+unfoldable pub cube_of : ℕ → List ℕ → Cube
+cube_of q bs = codes (take q bs)
 
 unfoldable pub whole_at : ℕ → List ℕ → ℕ → Cube
-whole_at q s at = cubeOf q (drop at s)
+whole_at q s at = cube_of q (drop at s)
 
-unfoldable pub wholesAt : ℕ → List ℕ → ℕ → ℕ → List Cube
-wholesAt q s at zero = []
-wholesAt q s at (suc n) = whole_at q s at ∷ wholesAt q s (at + q) n
+unfoldable pub wholes_at : ℕ → List ℕ → ℕ → ℕ → List Cube
+wholes_at q s at zero = []
+wholes_at q s at (suc n) = whole_at q s at ∷ wholes_at q s (at + q) n

@@ -1,8 +1,8 @@
 // The public questions about two lent cubes.
 ghost use Rattle.std.specs.Prelude.{◌≡◌, length};
 ghost use Rattle.format.specs.Rows.{outcome};
-ghost use Rattle.format.specs.Told.{over, twoCubes};
-ghost use Rattle.format.specs.Calls.{cube-meet, cube-in, wider-number};
+ghost use Rattle.format.specs.Told.{over, two_cubes};
+ghost use Rattle.format.specs.Calls.{cube_meet, cube_in, wider_number};
 ghost use Rattle.cube.specs.Call.{WiderIs};
 
 use super::fault::lent_fault;
@@ -12,7 +12,7 @@ use answer::Answer;
 
 // The refusal of a width given directly or of one of two lent cubes, or the number 0.
 fn pair_refusal(w: usize, a: &[u8], b: &[u8]) -> Answer
-    ensures { result ≡ outcome (twoCubes w a.now b.now) }
+    ensures { result ≡ outcome (two_cubes w a.now b.now) }
 {
     let refusal = width_refusal(w);
     if refusal.number != 0 {
@@ -31,8 +31,8 @@ fn pair_refusal(w: usize, a: &[u8], b: &[u8]) -> Answer
 
 // Writes the cube of the headers that are in both; no, and nothing is written, where there is none.
 pub fn cube_meet(w: usize, a: &[u8], b: &[u8], out: &mut [u8]) -> Answer
-    ensures answer { result ≡ (cube-meet w a.now b.now (length out.old)).answer }
-    ensures bytes { out.new ≡ over out.old (cube-meet w a.now b.now (length out.old)).bytes }
+    ensures answer { result ≡ (cube_meet w a.now b.now (length out.old)).answer }
+    ensures bytes { out.new ≡ over out.old (cube_meet w a.now b.now (length out.old)).bytes }
 {
     let refusal = pair_refusal(w, a, b);
     if refusal.number != 0 {
@@ -50,7 +50,7 @@ pub fn cube_meet(w: usize, a: &[u8], b: &[u8], out: &mut [u8]) -> Answer
 
 // Whether every header of the first cube is in the second.
 pub fn cube_in(w: usize, a: &[u8], b: &[u8]) -> Answer
-    ensures { result ≡ (cube-in w a.now b.now).answer }
+    ensures { result ≡ (cube_in w a.now b.now).answer }
 {
     let refusal = pair_refusal(w, a, b);
     if refusal.number != 0 {
@@ -64,7 +64,7 @@ pub fn cube_in(w: usize, a: &[u8], b: &[u8]) -> Answer
 
 // Whether one of two cubes holds the other.
 pub fn wider_number(w: usize, a: &[u8], b: &[u8]) -> Answer
-    ensures { result ≡ (wider-number w a.now b.now).answer }
+    ensures { result ≡ (wider_number w a.now b.now).answer }
 {
     let refusal = pair_refusal(w, a, b);
     if refusal.number != 0 {

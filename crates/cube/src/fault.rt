@@ -1,6 +1,6 @@
 // What is wrong with the bytes of a cube.
 ghost use Rattle.std.specs.Prelude.{◌≡◌, [], ◌∷◌, ◌<◌};
-ghost use Rattle.format.specs.Bytes.{codes, allFree, cubeFault, lentFault};
+ghost use Rattle.format.specs.Bytes.{codes, all_free, cube_fault, lent_fault};
 
 use super::code::code_zero;
 use super::pair::meets;
@@ -8,7 +8,7 @@ use super::size::cube_len;
 
 // Whether every place of every byte holds code 3.
 fn all_free(c: &[u8]) -> bool
-    ensures { result ≡ allFree (codes c.now) }
+    ensures { result ≡ all_free (codes c.now) }
 {
     let mut bad: u8 = 0;
     let mut i = 0;
@@ -22,7 +22,7 @@ fn all_free(c: &[u8]) -> bool
 // What is wrong with a byte whose first places are w positions and whose others are unused. Most bytes here are all free.
 fn byte_fault(b: u8, w: usize) -> u8
     requires { w < 4 }
-    ensures { result ≡ cubeFault w (b ∷ []) }
+    ensures { result ≡ cube_fault w (b ∷ []) }
 {
     if b == 255 {
         return 0;
@@ -40,7 +40,7 @@ fn byte_fault(b: u8, w: usize) -> u8
 // What is wrong with the cube of w positions in c: 13, 14, or 0. A byte past the positions holds unused places alone. Bytes hold code 0 exactly when
 // they share no header with themselves, so `meets` looks at all those that hold positions alone.
 pub fn cube_fault(c: &[u8], w: usize) -> u8
-    ensures { result ≡ cubeFault w c.now }
+    ensures { result ≡ cube_fault w c.now }
 {
     let whole = w / 4;
     if c.len() <= whole {
@@ -66,7 +66,7 @@ pub fn cube_fault(c: &[u8], w: usize) -> u8
 
 // What is wrong with a lent cube, whose length may be wrong too: 12, 13, 14, or 0.
 pub(crate) fn lent_fault(c: &[u8], w: usize) -> u8
-    ensures { result ≡ lentFault w c.now }
+    ensures { result ≡ lent_fault w c.now }
 {
     if c.len() != cube_len(w) {
         return 12;

@@ -1,10 +1,10 @@
 // Header bytes: bits that have to be zero, and the cube that fixes every bit.
 ghost use Rattle.std.specs.Prelude.{◌≡◌, [], ◌∷◌, map, ◌<◌, drop};
-ghost use Rattle.model.specs.Fields.{bitCode};
+ghost use Rattle.model.specs.Fields.{bit_code};
 ghost use Rattle.format.specs.Rows.{outcome};
-ghost use Rattle.format.specs.Bytes.{bits, anyBit, codes};
-ghost use Rattle.format.specs.Told.{bitsTests};
-ghost use Rattle.cube.specs.Header.{spelledCube};
+ghost use Rattle.format.specs.Bytes.{bits, any_bit, codes};
+ghost use Rattle.format.specs.Told.{bits_tests};
+ghost use Rattle.cube.specs.Header.{spelled_cube};
 
 use super::size::{WIDEST_CUBE, WIDEST_HEADER, header_len, least};
 use answer::Answer;
@@ -16,7 +16,7 @@ const SPELLED: [u8; 16] = [
 
 // Whether a bit is set.
 fn any_set(h: &[u8]) -> bool
-    ensures { result ≡ anyBit (bits h.now) }
+    ensures { result ≡ any_bit (bits h.now) }
 {
     let mut set: u8 = 0;
     let mut i = 0;
@@ -30,14 +30,14 @@ fn any_set(h: &[u8]) -> bool
 // Whether a bit of a byte is set at or after a place of it.
 fn set_after(b: u8, used: usize) -> bool
     requires { used < 8 }
-    ensures { result ≡ anyBit (drop used (bits (b ∷ []))) }
+    ensures { result ≡ any_bit (drop used (bits (b ∷ []))) }
 {
     b & (255 >> used) != 0
 }
 
 // Whether a bit is set at or after the position `used`.
 fn bits_after(h: &[u8], used: usize) -> bool
-    ensures { result ≡ anyBit (drop used (bits h.now)) }
+    ensures { result ≡ any_bit (drop used (bits h.now)) }
 {
     let whole = used / 8;
     if h.len() <= whole {
@@ -52,7 +52,7 @@ fn bits_after(h: &[u8], used: usize) -> bool
 
 // The refusal of the bytes of a header or field value of n positions of which the first `used` may be set, or the number 0.
 pub fn bits_refusal(bs: &[u8], n: usize, used: usize) -> Answer
-    ensures { result ≡ outcome (bitsTests n used bs.now) }
+    ensures { result ≡ outcome (bits_tests n used bs.now) }
 {
     if bs.len() != header_len(n) {
         return Answer::refused(11);
@@ -66,14 +66,14 @@ pub fn bits_refusal(bs: &[u8], n: usize, used: usize) -> Answer
 // The cube byte that fixes the last four bits of a byte.
 fn spell(b: u8) -> u8
     requires { b < 16 }
-    ensures { codes (result ∷ []) ≡ map bitCode (drop 4 (bits (b ∷ []))) }
+    ensures { codes (result ∷ []) ≡ map bit_code (drop 4 (bits (b ∷ []))) }
 {
     SPELLED[b as usize]
 }
 
 // The cube of the widest header that fixes each bit of h, as bytes; where h has no byte the bits are zero.
 pub fn spelled(h: &[u8]) -> [u8; WIDEST_CUBE]
-    ensures { codes result ≡ spelledCube h.now }
+    ensures { codes result ≡ spelled_cube h.now }
 {
     let n = least(h.len(), WIDEST_HEADER);
     let mut c = [0x55u8; WIDEST_CUBE];

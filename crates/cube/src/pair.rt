@@ -2,7 +2,7 @@
 ghost use Rattle.std.specs.Prelude.{◌≡◌, length};
 ghost use Rattle.model.specs.Cube.{shares};
 ghost use Rattle.format.specs.Bytes.{codes};
-ghost use Rattle.cube.specs.Pair.{liesIn, andInto};
+ghost use Rattle.cube.specs.Pair.{lies_in, and_into};
 
 use super::size::least;
 
@@ -25,7 +25,7 @@ pub fn meets(a: &[u8], b: &[u8]) -> bool
 
 // Whether the first cube lies in the second: meeting the second changes nothing. Cubes of different lengths do not.
 pub fn lies_in(a: &[u8], b: &[u8]) -> bool
-    ensures { result ≡ liesIn a.now b.now }
+    ensures { result ≡ lies_in a.now b.now }
 {
     if a.len() != b.len() {
         return false;
@@ -41,7 +41,7 @@ pub fn lies_in(a: &[u8], b: &[u8]) -> bool
 
 // Writes the meet of two cubes over the front of out, as long as all three have a byte.
 pub fn meet_into(a: &[u8], b: &[u8], out: &mut [u8])
-    ensures { out.new ≡ andInto a.now b.now out.old }
+    ensures { out.new ≡ and_into a.now b.now out.old }
 {
     let n = least(least(a.len(), b.len()), out.len());
     let mut i = 0;

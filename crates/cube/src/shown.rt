@@ -2,7 +2,7 @@
 ghost use Rattle.std.specs.Prelude.{◌≡◌, [], ◌∷◌, ◌-◌, ◌*◌, ◌%◌, ◌^◌, ◌<◌};
 ghost use Rattle.model.specs.Cube.{shown};
 ghost use Rattle.format.specs.Bytes.{codes, octet};
-ghost use Rattle.cube.specs.Shown.{showInto};
+ghost use Rattle.cube.specs.Shown.{show_into};
 
 use super::size::{WIDEST, WIDEST_CUBE, header_len};
 
@@ -32,7 +32,7 @@ fn front_bits(b: u8, n: usize) -> u8
 // Writes the header of the piece's first w positions with all its free positions 0 over the front of out; nothing is written where w is above the widest
 // width, or where the header has no room.
 pub fn show(piece: [u8; WIDEST_CUBE], w: usize, out: &mut [u8])
-    ensures { out.new ≡ showInto piece w out.old }
+    ensures { out.new ≡ show_into piece w out.old }
 {
     if WIDEST < w {
         return;

@@ -1,8 +1,8 @@
 // Widths, and how many bytes headers and cubes take.
 ghost use Rattle.std.specs.Prelude.{◌≡◌, min};
 ghost use Rattle.format.specs.Rows.{outcome};
-ghost use Rattle.format.specs.Bytes.{headerLen, cubeLen};
-ghost use Rattle.format.specs.Told.{widthTests};
+ghost use Rattle.format.specs.Bytes.{header_len, cube_len};
+ghost use Rattle.format.specs.Told.{width_tests};
 
 use answer::Answer;
 
@@ -16,7 +16,7 @@ pub const WIDEST_HEADER: usize = (WIDEST + 7) / 8;
 
 // The refusal of a width given directly, or the number 0.
 pub fn width_refusal(w: usize) -> Answer
-    ensures { result ≡ outcome (widthTests w) }
+    ensures { result ≡ outcome (width_tests w) }
 {
     if w == 0 {
         return Answer::refused(10);
@@ -29,14 +29,14 @@ pub fn width_refusal(w: usize) -> Answer
 
 // The bytes of a cube of w positions.
 pub fn cube_len(w: usize) -> usize
-    ensures { result ≡ cubeLen w }
+    ensures { result ≡ cube_len w }
 {
     w / 4 + (w % 4 + 3) / 4
 }
 
 // The bytes of a header of w positions.
 pub fn header_len(w: usize) -> usize
-    ensures { result ≡ headerLen w }
+    ensures { result ≡ header_len w }
 {
     w / 8 + (w % 8 + 7) / 8
 }

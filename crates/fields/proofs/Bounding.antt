@@ -13,23 +13,23 @@ use Rattle.format.specs.Limits.{widest}
 use Rattle.format.specs.Told.{Told, silent}
 use Rattle.format.proofs.Reached.{skipped}
 use Rattle.format.proofs.Lending.{tests-refused, tests-past}
-use Rattle.fields.specs.Bounds.{fieldTests}
+use Rattle.fields.specs.Bounds.{field_tests}
 
 pub record FieldIn (w s n : ℕ) : Type 0 where
   pub narrow : w ≤ widest
   pub some : 0 < n
   pub inside : s + n ≤ w
 
-module _ (w s n : ℕ) (r : Answer) (e : r ≡ outcome (fieldTests w s n)) where
-  pub field-refused : (k : Rows Told) → (r.number ≡ 0 → ⊥) → silent r ≡ outcome (onto silent (fieldTests w s n) k)
-  field-refused k = tests-refused (fieldTests w s n) r e silent k (omega arith)
+module _ (w s n : ℕ) (r : Answer) (e : r ≡ outcome (field_tests w s n)) where
+  pub field-refused : (k : Rows Told) → (r.number ≡ 0 → ⊥) → silent r ≡ outcome (onto silent (field_tests w s n) k)
+  field-refused k = tests-refused (field_tests w s n) r e silent k (omega arith)
 
   pub field-stands : r.number ≡ 0 → FieldIn w s n
   field-stands z =
-      let p = tests-past (fieldTests w s n) r e (omega arith) z in record { narrow = p.1.0; some = omega arith; inside = p.1.1.1.0 }
+      let p = tests-past (field_tests w s n) r e (omega arith) z in record { narrow = p.1.0; some = omega arith; inside = p.1.1.1.0 }
 
 pub field-again : (w p q n : ℕ) (k : Rows Told) → FieldIn w p n
-    → outcome (onto silent (fieldTests w q n) k) ≡ outcome (onto silent (fieldTests w p n) (row (below w (q + n)) (silent (refused 21)) k))
+    → outcome (onto silent (field_tests w q n) k) ≡ outcome (onto silent (field_tests w p n) (row (below w (q + n)) (silent (refused 21)) k))
 field-again w p q n k f =
-    sym (skipped 3 (onto silent (fieldTests w q n) k) (omega arith))
-    ∙ skipped 4 (onto silent (fieldTests w p n) (row (below w (q + n)) (silent (refused 21)) k)) (omega arith)
+    sym (skipped 3 (onto silent (field_tests w q n) k) (omega arith))
+    ∙ skipped 4 (onto silent (field_tests w p n) (row (below w (q + n)) (silent (refused 21)) k)) (omega arith)

@@ -20,65 +20,65 @@ use lib.ListN.{length, get_or, take, drop, set, replicate, length-append, length
 use lib.Seq.{take-suc, set_at, set-append_left, length-take-le}
 use borrow.Rule.Slice.PartMut.{put_mid}
 use Rattle.model.specs.Cube.{Header, Code, v0, v1, free, Cube}
-use Rattle.model.specs.Fields.{bitCode, prefixCube, apart, unequal, equalFields}
+use Rattle.model.specs.Fields.{bit_code, prefix_cube, apart, unequal, equal_fields}
 use Rattle.model.proofs.Field.{prefix-length, equal-count}
 use Rattle.model.specs.Padding.{pad}
-use Rattle.format.specs.Limits.{widestCube, mostCuts}
-use Rattle.format.specs.Bytes.{Bytes, cubeLen, bit_of, code_of, codes, writeCube, unused}
-use Rattle.format.specs.Records.{cubesBytes, frontBytes, differenceBytes}
+use Rattle.format.specs.Limits.{widest_cube, most_cuts}
+use Rattle.format.specs.Bytes.{Bytes, cube_len, bit_of, code_of, codes, write_cube, unused}
+use Rattle.format.specs.Records.{cubes_bytes, front_bytes, difference_bytes}
 use Rattle.format.proofs.Coding.{write-length, codes-free}
-use Rattle.region.specs.Writing.{recordLen}
+use Rattle.region.specs.Writing.{record_len}
 use Rattle.region.proofs.Writing.{all-bytes, front_length, record-len}
-use Rattle.fields.specs.Equality.{pairs, equalBytes}
+use Rattle.fields.specs.Equality.{pairs, equal_bytes}
 use Rattle.cube.proofs.Coded.{bytes-are}
 
 frees : (n m k : ℕ) → n + m ≡ k → replicate n free ++ replicate m free ≡ replicate k free
 frees n m k e = replicate-append-replicate n m free ∙ ap (λ (i : ℕ). replicate i free) e
 
 -- prefixes
-pub prefix-none : (w s : ℕ) (v : Header) → s ≤ w → replicate w free ≡ prefixCube w s 0 v
-unfolding prefixCube
+pub prefix-none : (w s : ℕ) (v : Header) → s ≤ w → replicate w free ≡ prefix_cube w s 0 v
+unfolding prefix_cube
 prefix-none w s v h = sym (frees s (w - (s + 0)) w (omega arith))
 
 pub prefix-more : (w s i : ℕ) (v : Header) → i < length v → s + i < w
-    → set (prefixCube w s i v) (s + i) (bitCode (get_or v i false)) ≡ prefixCube w s (i + 1) v
-unfolding prefixCube
+    → set (prefix_cube w s i v) (s + i) (bit_code (get_or v i false)) ≡ prefix_cube w s (i + 1) v
+unfolding prefix_cube
 prefix-more w s i v h l =
     let a = replicate s free in
-    let b = map bitCode (take i v) in
-    let x = bitCode (get_or v i false) in
+    let b = map bit_code (take i v) in
+    let x = bit_code (get_or v i false) in
     let r = replicate (w - (s + (i + 1))) free in
     let e : w - (s + i) ≡ suc (w - (s + (i + 1))) = omega arith in
     let n : length (a ++ b) ≡ s + i = simp (length-append, length-map, length-replicate) (rw (length-take-le i v (omega arith))) in
-    let t : map bitCode (take (i + 1) v) ≡ b ++ (x ∷ []) = rw (add-one, take-suc v i false h) (map-append bitCode (take i v) (get_or v i false ∷ [])) in
+    let t : map bit_code (take (i + 1) v) ≡ b ++ (x ∷ []) = rw (add-one, take-suc v i false h) (map-append bit_code (take i v) (get_or v i false ∷ [])) in
     rw (e, t, ← append_assoc a b (free ∷ r), set_at (a ++ b) free r x (s + i) n) (simp append_assoc)
 
-pub bit-code : (b : ℕ) → b < 2 → code_of (b + 1) ≡ bitCode (bit_of b)
+pub bit-code : (b : ℕ) → b < 2 → code_of (b + 1) ≡ bit_code (bit_of b)
 bit-code zero h = refl
 bit-code (suc zero) h = refl
 bit-code (suc (suc b)) h = absurd (omega arith)
 
-pub prefix-size : (w s m : ℕ) (v : Header) → s + m ≤ w → m ≤ length v → length (writeCube (prefixCube w s m v)) ≡ cubeLen w
-prefix-size w s m v f g = write-length (cubeLen (length (prefixCube w s m v))) (prefixCube w s m v) ∙ ap cubeLen (prefix-length w s m v f g)
+pub prefix-size : (w s m : ℕ) (v : Header) → s + m ≤ w → m ≤ length v → length (write_cube (prefix_cube w s m v)) ≡ cube_len w
+prefix-size w s m v f g = write-length (cube_len (length (prefix_cube w s m v))) (prefix_cube w s m v) ∙ ap cube_len (prefix-length w s m v f g)
 
-pub prefix-bytes : (w s m : ℕ) (v : Header) (b : List ℕ) → Bytes b → length b ≡ cubeLen w → s + m ≤ w → m ≤ length v
-    → codes b ≡ prefixCube (4 * length b) s m v → b ≡ writeCube (prefixCube w s m v)
-prefix-bytes w s m v b h l f g e = bytes-are w b (prefixCube w s m v) h (prefix-length w s m v f g) (e ∙ padded)
+pub prefix-bytes : (w s m : ℕ) (v : Header) (b : List ℕ) → Bytes b → length b ≡ cube_len w → s + m ≤ w → m ≤ length v
+    → codes b ≡ prefix_cube (4 * length b) s m v → b ≡ write_cube (prefix_cube w s m v)
+prefix-bytes w s m v b h l f g e = bytes-are w b (prefix_cube w s m v) h (prefix-length w s m v f g) (e ∙ padded)
   where
-    padded : prefixCube (4 * length b) s m v ≡ pad (unused w) (prefixCube w s m v)
+    padded : prefix_cube (4 * length b) s m v ≡ pad (unused w) (prefix_cube w s m v)
     padded =
-        unfold prefixCube in
-        rw (l, append_assoc, append_assoc, frees (w - (s + m)) (unused w) (4 * cubeLen w - (s + m)) (omega arith))
+        unfold prefix_cube in
+        rw (l, append_assoc, append_assoc, frees (w - (s + m)) (unused w) (4 * cube_len w - (s + m)) (omega arith))
 
 -- cubes with two codes
-wide-free : (w : ℕ) → replicate (4 * cubeLen w) free ≡ pad (unused w) (replicate w free)
-wide-free w = sym (frees w (unused w) (4 * cubeLen w) (omega arith))
+wide-free : (w : ℕ) → replicate (4 * cube_len w) free ≡ pad (unused w) (replicate w free)
+wide-free w = sym (frees w (unused w) (4 * cube_len w) (omega arith))
 
 length-apart : (w p q : ℕ) (x y : Code) → length (apart w p q x y) ≡ w
 length-apart w p q x y = simp (length-set, length-replicate)
 
-pub apart-bytes : (w p q : ℕ) (x y : Code) (b : List ℕ) → Bytes b → length b ≡ cubeLen w → p < w → q < w
-    → codes b ≡ set (set (replicate (4 * length b) free) p x) q y → b ≡ writeCube (apart w p q x y)
+pub apart-bytes : (w p q : ℕ) (x y : Code) (b : List ℕ) → Bytes b → length b ≡ cube_len w → p < w → q < w
+    → codes b ≡ set (set (replicate (4 * length b) free) p x) q y → b ≡ write_cube (apart w p q x y)
 apart-bytes w p q x y b h l f g e =
     let u = replicate (unused w) free in
     let one = set-append_left (replicate w free) u p x (rw (length-replicate w free) f) in
@@ -89,9 +89,9 @@ bytes-full : (n : ℕ) → Bytes (replicate n 255)
 bytes-full zero = tt
 bytes-full (suc n) = (omega arith, bytes-full n)
 
-pub free_bytes : (w : ℕ) → replicate (cubeLen w) 255 ≡ writeCube (replicate w free)
+pub free_bytes : (w : ℕ) → replicate (cube_len w) 255 ≡ write_cube (replicate w free)
 free_bytes w =
-    let n = cubeLen w in
+    let n = cube_len w in
     bytes-are w (replicate n 255) (replicate w free) (bytes-full n) (length-replicate w free) (codes-free n ∙ wide-free w)
 
 -- the cuts of an equality
@@ -106,20 +106,20 @@ unequal-more w p q (suc i) =
     let f : q + suc i ≡ q + 1 + i = omega arith in
     rw (e, f) (ap (λ (l : List Cube). apart w p q v0 v1 ∷ apart w p q v1 v0 ∷ l) (unequal-more w (p + 1) (q + 1) i))
 
-cubes-append : (cs ds : List Cube) → cubesBytes (cs ++ ds) ≡ cubesBytes cs ++ cubesBytes ds
+cubes-append : (cs ds : List Cube) → cubes_bytes (cs ++ ds) ≡ cubes_bytes cs ++ cubes_bytes ds
 cubes-append [] ds = refl
-cubes-append (c ∷ cs) ds = rw (cubes-append cs ds) (sym (append_assoc (writeCube c) (cubesBytes cs) (cubesBytes ds)))
+cubes-append (c ∷ cs) ds = rw (cubes-append cs ds) (sym (append_assoc (write_cube c) (cubes_bytes cs) (cubes_bytes ds)))
 
-pub cuts-more : (w p q i : ℕ) → cubesBytes (unequal w p q (i + 1))
-    ≡ (cubesBytes (unequal w p q i) ++ writeCube (apart w (p + i) (q + i) v0 v1)) ++ writeCube (apart w (p + i) (q + i) v1 v0)
+pub cuts-more : (w p q i : ℕ) → cubes_bytes (unequal w p q (i + 1))
+    ≡ (cubes_bytes (unequal w p q i) ++ write_cube (apart w (p + i) (q + i) v0 v1)) ++ write_cube (apart w (p + i) (q + i) v1 v0)
 cuts-more w p q i =
-    rw (add-one, unequal-more w p q i, cubes-append (unequal w p q i) (pair w (p + i) (q + i)), append-nil (writeCube (apart w (p + i) (q + i) v1 v0)))
-    (sym (append_assoc (cubesBytes (unequal w p q i)) (writeCube (apart w (p + i) (q + i) v0 v1)) (writeCube (apart w (p + i) (q + i) v1 v0))))
+    rw (add-one, unequal-more w p q i, cubes-append (unequal w p q i) (pair w (p + i) (q + i)), append-nil (write_cube (apart w (p + i) (q + i) v1 v0)))
+    (sym (append_assoc (cubes_bytes (unequal w p q i)) (write_cube (apart w (p + i) (q + i) v0 v1)) (write_cube (apart w (p + i) (q + i) v1 v0))))
 
-pub cut-length : (w p q : ℕ) (x y : Code) → length (writeCube (apart w p q x y)) ≡ cubeLen w
-cut-length w p q x y = write-length (cubeLen (length (apart w p q x y))) (apart w p q x y) ∙ ap cubeLen (length-apart w p q x y)
+pub cut-length : (w p q : ℕ) (x y : Code) → length (write_cube (apart w p q x y)) ≡ cube_len w
+cut-length w p q x y = write-length (cube_len (length (apart w p q x y))) (apart w p q x y) ∙ ap cube_len (length-apart w p q x y)
 
-pub cuts-length : (w p q n : ℕ) → length (cubesBytes (unequal w p q n)) ≡ 2 * n * cubeLen w
+pub cuts-length : (w p q n : ℕ) → length (cubes_bytes (unequal w p q n)) ≡ 2 * n * cube_len w
 unfolding unequal
 cuts-length w p q zero = omega arith
 cuts-length w p q (suc n) =
@@ -128,20 +128,20 @@ cuts-length w p q (suc n) =
 pub cuts-room : (i n z l : ℕ) → i < n → 2 * n * z ≤ l → 2 * i * z + 2 * z ≤ l
 cuts-room i n z l h r = let e : 2 * i + 2 ≤ 2 * n = omega arith in omega (arith, mul-le-mul_right z e)
 
-pub equal-cuts : (w p q n : ℕ) → length (equalFields w p q n).cuts ≡ 2 * pairs p q n
-unfolding equalFields
+pub equal-cuts : (w p q n : ℕ) → length (equal_fields w p q n).cuts ≡ 2 * pairs p q n
+unfolding equal_fields
 equal-cuts w p q n = go (eqb p q)
   where
     go : (b : Bool) → length (cond b [] (unequal w p q n)) ≡ 2 * cond b 0 n
     go true = refl
     go false = equal-count w p q n
 
-pub equal-bytes : (w p q n : ℕ) → differenceBytes w (equalFields w p q n) ≡ equalBytes w p q (pairs p q n)
-unfolding differenceBytes equalFields
+pub equal-bytes : (w p q n : ℕ) → difference_bytes w (equal_fields w p q n) ≡ equal_bytes w p q (pairs p q n)
+unfolding difference_bytes equal_fields
 equal-bytes w p q n = go (eqb p q)
   where
-    go : (b : Bool) → frontBytes (length (cond b [] (unequal w p q n))) (cubeLen w) ++ cubesBytes (replicate w free ∷ cond b [] (unequal w p q n))
-        ≡ equalBytes w p q (cond b 0 n)
+    go : (b : Bool) → front_bytes (length (cond b [] (unequal w p q n))) (cube_len w) ++ cubes_bytes (replicate w free ∷ cond b [] (unequal w p q n))
+        ≡ equal_bytes w p q (cond b 0 n)
     go true = unfold unequal in refl
     go false = rw (equal-count w p q n)
 
@@ -152,12 +152,12 @@ pairs-few p q n = go (eqb p q)
     go true = omega arith
     go false = omega arith
 
-pub equal-size : (w p q n : ℕ) → 2 * pairs p q n ≤ mostCuts → cubeLen w ≤ widestCube
-    → length (differenceBytes w (equalFields w p q n)) ≡ recordLen (2 * pairs p q n) (cubeLen w)
+pub equal-size : (w p q n : ℕ) → 2 * pairs p q n ≤ most_cuts → cube_len w ≤ widest_cube
+    → length (difference_bytes w (equal_fields w p q n)) ≡ record_len (2 * pairs p q n) (cube_len w)
 equal-size w p q n few short =
     let k = pairs p q n in
-    let b : length (writeCube (replicate w free)) ≡ cubeLen w = ap length (sym (free_bytes w)) ∙ length-replicate (cubeLen w) 255 in
-    rw (equal-bytes w p q n, record-len (2 * k) (cubeLen w) few short)
+    let b : length (write_cube (replicate w free)) ≡ cube_len w = ap length (sym (free_bytes w)) ∙ length-replicate (cube_len w) 255 in
+    rw (equal-bytes w p q n, record-len (2 * k) (cube_len w) few short)
     (simp (length-append, front_length) (omega (arith, b, cuts-length w p q k)))
 
 -- a part that was lent and came back holds bytes

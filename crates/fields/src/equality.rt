@@ -3,13 +3,13 @@ ghost use Rattle.std.specs.Prelude.{◌≡◌, ◌+◌, ◌*◌, ◌≤◌, ◌<
 ghost use Rattle.model.specs.Cube.{free};
 ghost use Rattle.model.specs.Fields.{apart, unequal};
 ghost use Rattle.format.specs.Limits.{widest};
-ghost use Rattle.format.specs.Bytes.{cubeLen, code_of, codes, writeCube};
-ghost use Rattle.format.specs.Records.{cubesBytes};
+ghost use Rattle.format.specs.Bytes.{cube_len, code_of, codes, write_cube};
+ghost use Rattle.format.specs.Records.{cubes_bytes};
 ghost use Rattle.format.specs.Told.{over};
-ghost use Rattle.format.specs.Calls.{equal-fields};
+ghost use Rattle.format.specs.Calls.{equal_fields};
 ghost use Rattle.cube.specs.Lay.{laid};
-ghost use Rattle.region.specs.Writing.{recordLen};
-ghost use Rattle.fields.specs.Equality.{mostPairs, pairs, equalBytes};
+ghost use Rattle.region.specs.Writing.{record_len};
+ghost use Rattle.fields.specs.Equality.{most_pairs, pairs, equal_bytes};
 
 use super::bounds::field_refusal;
 use answer::Answer;
@@ -30,8 +30,8 @@ fn put_apart(c: &mut [u8], p: usize, q: usize, x: u8, y: u8)
 
 // Writes the cut of w positions with two codes at an offset of out.
 fn put_cut(out: &mut [u8], o: usize, w: usize, p: usize, q: usize, x: u8, y: u8)
-    requires { (o + cubeLen w ≤ length out.old) × (p < w) × (q < w) × (w ≤ widest) }
-    ensures { out.new ≡ laid out.old o (writeCube (apart w p q (code_of x) (code_of y))) }
+    requires { (o + cube_len w ≤ length out.old) × (p < w) × (q < w) × (w ≤ widest) }
+    ensures { out.new ≡ laid out.old o (write_cube (apart w p q (code_of x) (code_of y))) }
 {
     let end = o + cube_len(w);
     put_apart(&mut out[o..end], p, q, x, y);
@@ -39,8 +39,8 @@ fn put_cut(out: &mut [u8], o: usize, w: usize, p: usize, q: usize, x: u8, y: u8)
 
 // Writes the cuts of n positions from p on and from q on: with 0 and 1, then with 1 and 0.
 fn put_cuts(out: &mut [u8], w: usize, p: usize, q: usize, n: usize)
-    requires { (p + n ≤ w) × (q + n ≤ w) × (w ≤ widest) × (n ≤ mostPairs) × (2 * n * cubeLen w ≤ length out.old) }
-    ensures { out.new ≡ over out.old (cubesBytes (unequal w p q n)) }
+    requires { (p + n ≤ w) × (q + n ≤ w) × (w ≤ widest) × (n ≤ most_pairs) × (2 * n * cube_len w ≤ length out.old) }
+    ensures { out.new ≡ over out.old (cubes_bytes (unequal w p q n)) }
 {
     let size = cube_len(w);
     let mut i = 0;
@@ -55,8 +55,8 @@ fn put_cuts(out: &mut [u8], w: usize, p: usize, q: usize, n: usize)
 
 // Writes the record of an equality with the cuts of n positions.
 fn put_equality(out: &mut [u8], w: usize, p: usize, q: usize, n: usize)
-    requires { (p + n ≤ w) × (q + n ≤ w) × (w ≤ widest) × (n ≤ mostPairs) × (recordLen (2 * n) (cubeLen w) ≤ length out.old) }
-    ensures { out.new ≡ over out.old (equalBytes w p q n) }
+    requires { (p + n ≤ w) × (q + n ≤ w) × (w ≤ widest) × (n ≤ most_pairs) × (record_len (2 * n) (cube_len w) ≤ length out.old) }
+    ensures { out.new ≡ over out.old (equal_bytes w p q n) }
 {
     let size = cube_len(w);
     let base = front_len(2 * n);
@@ -78,8 +78,8 @@ fn pairs_of(p: usize, q: usize, n: usize) -> usize
 
 // Writes the difference of the headers whose fields of n positions at p and at q are equal, as one kind 2 record.
 pub fn equal_fields(w: usize, p: usize, q: usize, n: usize, out: &mut [u8]) -> Answer
-    ensures answer { result ≡ (equal-fields w p q n (length out.old)).answer }
-    ensures bytes { out.new ≡ over out.old (equal-fields w p q n (length out.old)).bytes }
+    ensures answer { result ≡ (equal_fields w p q n (length out.old)).answer }
+    ensures bytes { out.new ≡ over out.old (equal_fields w p q n (length out.old)).bytes }
 {
     let first = field_refusal(w, p, n);
     if first.number != 0 {

@@ -1,6 +1,6 @@
 // Prefix constraints: the cube of the headers whose field begins with the bits of a value.
 ghost use Rattle.std.specs.Prelude.{◌≡◌, ◌+◌, ◌*◌, ◌≤◌, length};
-ghost use Rattle.model.specs.Fields.{prefixCube};
+ghost use Rattle.model.specs.Fields.{prefix_cube};
 ghost use Rattle.format.specs.Limits.{widest};
 ghost use Rattle.format.specs.Bytes.{bits, codes};
 ghost use Rattle.format.specs.Told.{over};
@@ -13,7 +13,7 @@ use cube::{bits_refusal, cube_len, fill, set_code};
 // Makes a cube that fixes the positions from s on to the first m bits of a value.
 fn put_prefix(c: &mut [u8], s: usize, value: &[u8], m: usize)
     requires { (s + m ≤ 4 * length c.old) × (m ≤ 8 * length value.now) × (s + m ≤ widest) }
-    ensures { codes c.new ≡ prefixCube (4 * length c.old) s m (bits value.now) }
+    ensures { codes c.new ≡ prefix_cube (4 * length c.old) s m (bits value.now) }
 {
     fill(c);
     let mut i = 0;

@@ -22,8 +22,8 @@ use Rattle.model.specs.Walk.{Survivor, nothing, piece, Found, Decision, undecide
 use Rattle.model.proofs.Cubes.{in-shown, length-shown}
 use Rattle.model.proofs.Allowed.{undecided-when}
 use Rattle.answer.specs.Answer as forms
-use Rattle.answer.specs.Answer.{noDifference, counted, showing}
-use Rattle.format.specs.Bytes.{headerLen, readHeader, writeHeader}
+use Rattle.answer.specs.Answer.{no_difference, counted, showing}
+use Rattle.format.specs.Bytes.{header_len, read_header, write_header}
 use Rattle.format.specs.Told.{Told, silent, deciding}
 use Rattle.format.specs.Meaning.{Shown}
 use Rattle.format.proofs.Heading.{read-written, header-accepted}
@@ -36,11 +36,11 @@ pub record Looks (w : ℕ) (In : Header → Bool) (v : Found) : Type 0 where
 
 -- the header shown
 header-shown : (w n i : ℕ) (In : Header → Bool) (h : Header) → length h ≡ w → In h ≡ true
-    → Shown w In (record { answer = showing n (headerLen w) i; bytes = writeHeader h })
+    → Shown w In (record { answer = showing n (header_len w) i; bytes = write_header h })
 header-shown w n i In h l inside =
-    let same : readHeader w (writeHeader h) ≡ h = rw (← l) (read-written h) in
+    let same : read_header w (write_header h) ≡ h = rw (← l) (read-written h) in
     record {
-      long = (header-accepted h).0 ∙ ap headerLen l;
+      long = (header-accepted h).0 ∙ ap header_len l;
       told = refl;
       clear = rw (← l) (header-accepted h).1;
       wide = rw same l;
@@ -51,7 +51,7 @@ header-shown w n i In h l inside =
 told-by : (P : Told → Type 0) (w n i : ℕ) (v : Found) → (n < v.pieces → P (silent (forms.undecided n i)))
     → (v.pieces ≤ n → v.survivor ≡ nothing → P (silent (counted 1 v.pieces)))
     → ((q : Cube) → v.pieces ≤ n → v.survivor ≡ piece q
-    → P (record { answer = showing v.pieces (headerLen w) i; bytes = writeHeader (shown q) }))
+    → P (record { answer = showing v.pieces (header_len w) i; bytes = write_header (shown q) }))
     → P (deciding w (decide n i v))
 unfolding decide
 told-by P w n i v u e m = go (leb v.pieces n) refl v.survivor refl
@@ -137,9 +137,9 @@ module _ {w n i : ℕ} {In : Header → Bool} {v : Found} {Ok : Type 0} {x : Tol
       (told-by (λ y. 2 ≤ y.answer.number → y.answer.index ≡ i) w n i v
       (λ m z. refl) (λ m s z. absurd (omega arith)) (λ q m s z. refl) (rw (a.told l) at some))
 
-  pub asks_none : x.answer.number ≡ 1 → x.answer.index ≡ noDifference
+  pub asks_none : x.answer.number ≡ 1 → x.answer.index ≡ no_difference
   asks_none e =
       let l = a.accepted (omega arith) in
       rw (a.told l)
-      (told-by (λ y. y.answer.number ≡ 1 → y.answer.index ≡ noDifference) w n i v
+      (told-by (λ y. y.answer.number ≡ 1 → y.answer.index ≡ no_difference) w n i v
       (λ m z. absurd (omega arith)) (λ m s z. refl) (λ q m s z. absurd (omega arith)) (rw (a.told l) at e))

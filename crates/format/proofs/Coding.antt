@@ -24,7 +24,7 @@ use Rattle.model.specs.Cube.{Code, none, v0, v1, free, Cube, solid}
 use Rattle.model.proofs.Bools.{and_left, and_right}
 use Rattle.model.specs.Padding.{pad}
 use Rattle.format.specs.Rows.{last, row, isnt, outcome}
-use Rattle.format.specs.Bytes.{unused, Bytes, cubeLen, code_of, number_of, codes, readCube, cubeBytes, writeCube, isFree, allFree, cubeRows, cubeFault, lentRows, lentFault}
+use Rattle.format.specs.Bytes.{unused, Bytes, cube_len, code_of, number_of, codes, read_cube, cube_bytes, write_cube, is_free, all_free, cube_rows, cube_fault, lent_rows, lent_fault}
 use Rattle.format.proofs.Reached.{reached, clean}
 
 -- positions
@@ -45,50 +45,50 @@ code-at (b ∷ bs) (suc (suc (suc (suc p)))) h =
     rw (q, r) (code-at bs p (omega arith))
 
 -- an accepted cube
-module _ (w : ℕ) (bs : List ℕ) (e : cubeFault w bs ≡ 0) where
-  no-fault : (not (solid (readCube w bs)) ≡ false) × ((not (allFree (drop w (codes bs))) ≡ false) × (◌≡◌ {A = ℕ} 0 0))
-  unfolding cubeFault
-  no-fault = clean (cubeRows w bs) (omega arith) e
+module _ (w : ℕ) (bs : List ℕ) (e : cube_fault w bs ≡ 0) where
+  no-fault : (not (solid (read_cube w bs)) ≡ false) × ((not (all_free (drop w (codes bs))) ≡ false) × (◌≡◌ {A = ℕ} 0 0))
+  unfolding cube_fault
+  no-fault = clean (cube_rows w bs) (omega arith) e
 
-  pub fault-solid : solid (readCube w bs) ≡ true
-  fault-solid = not-false (solid (readCube w bs)) no-fault.0
+  pub fault-solid : solid (read_cube w bs) ≡ true
+  fault-solid = not-false (solid (read_cube w bs)) no-fault.0
 
-  pub fault-free : allFree (drop w (codes bs)) ≡ true
-  fault-free = not-false (allFree (drop w (codes bs))) no-fault.1.0
+  pub fault-free : all_free (drop w (codes bs)) ≡ true
+  fault-free = not-false (all_free (drop w (codes bs))) no-fault.1.0
 
 -- a lent cube
 module _ (w : ℕ) (bs : List ℕ) where
-  pub lent_length : lentFault w bs ≡ 0 → length bs ≡ cubeLen w
-  unfolding lentFault
-  lent_length e = (clean (lentRows w bs) (omega arith) e).0
+  pub lent_length : lent_fault w bs ≡ 0 → length bs ≡ cube_len w
+  unfolding lent_fault
+  lent_length e = (clean (lent_rows w bs) (omega arith) e).0
 
-  pub lent-fault : length bs ≡ cubeLen w → lentFault w bs ≡ cubeFault w bs
-  unfolding lentFault cubeFault outcome
-  lent-fault l = sym (reached 1 (row (isnt (length bs) (cubeLen w)) 12 (last (cubeFault w bs))) (l, tt))
+  pub lent-fault : length bs ≡ cube_len w → lent_fault w bs ≡ cube_fault w bs
+  unfolding lent_fault cube_fault outcome
+  lent-fault l = sym (reached 1 (row (isnt (length bs) (cube_len w)) 12 (last (cube_fault w bs))) (l, tt))
 
-  pub lent-cube : lentFault w bs ≡ 0 → cubeFault w bs ≡ 0
+  pub lent-cube : lent_fault w bs ≡ 0 → cube_fault w bs ≡ 0
   lent-cube e = sym (lent-fault (lent_length e)) ∙ e
 
-free-code : (x : Code) → isFree x ≡ true → x ≡ free
+free-code : (x : Code) → is_free x ≡ true → x ≡ free
 free-code none e = cc
 free-code v0 e = cc
 free-code v1 e = cc
 free-code free e = refl
 
-free_all : (c : Cube) → allFree c ≡ true → c ≡ replicate (length c) free
+free_all : (c : Cube) → all_free c ≡ true → c ≡ replicate (length c) free
 free_all [] e = refl
 free_all (x ∷ c) e =
-    let h = free-code x (and_left (isFree x) (allFree c) e) in
-    let t = free_all c (and_right (isFree x) (allFree c) e) in
+    let h = free-code x (and_left (is_free x) (all_free c) e) in
+    let t = free_all c (and_right (is_free x) (all_free c) e) in
     λ i. h i ∷ t i
 
-module _ (w : ℕ) (bs : List ℕ) (l : length bs ≡ cubeLen w) where
-  pub read_length : length (readCube w bs) ≡ w
-  unfolding readCube
+module _ (w : ℕ) (bs : List ℕ) (l : length bs ≡ cube_len w) where
+  pub read_length : length (read_cube w bs) ≡ w
+  unfolding read_cube
   read_length = length-take-le w (codes bs) (omega (arith, length-codes bs))
 
-  pub read-padded : cubeFault w bs ≡ 0 → codes bs ≡ pad (unused w) (readCube w bs)
-  unfolding readCube
+  pub read-padded : cube_fault w bs ≡ 0 → codes bs ≡ pad (unused w) (read_cube w bs)
+  unfolding read_cube
   read-padded e =
       let n : length (drop w (codes bs)) ≡ unused w = simp length-drop (omega (arith, length-codes bs)) in
       sym (take-append-drop w (codes bs)) ∙ ap (λ (c : Cube). take w (codes bs) ++ c) (free_all (drop w (codes bs)) (fault-free w bs e) ∙ ap (λ (m : ℕ). replicate m free) n)
@@ -134,50 +134,50 @@ pub codes-free : (n : ℕ) → codes (replicate n 255) ≡ replicate (4 * n) fre
 codes-free zero = refl
 codes-free (suc n) = let e : 4 * suc n ≡ suc (suc (suc (suc (4 * n)))) = omega arith in rw (e, codes-free n)
 
-pub write-padded : (n : ℕ) (c : Cube) → length c ≤ 4 * n → codes (cubeBytes n c) ≡ pad (4 * n - length c) c
-unfolding cubeBytes
+pub write-padded : (n : ℕ) (c : Cube) → length c ≤ 4 * n → codes (cube_bytes n c) ≡ pad (4 * n - length c) c
+unfolding cube_bytes
 write-padded zero [] h = refl
 write-padded zero (x ∷ c) h = absurd (omega arith)
 write-padded (suc n) [] h =
-    four free free free free (cubeBytes n []) ∙ rw (write-padded n [] (omega arith)) (let e : 4 * suc n - 0 ≡ suc (suc (suc (suc (4 * n - 0)))) = omega arith in rw e)
+    four free free free free (cube_bytes n []) ∙ rw (write-padded n [] (omega arith)) (let e : 4 * suc n - 0 ≡ suc (suc (suc (suc (4 * n - 0)))) = omega arith in rw e)
 write-padded (suc n) (x ∷ []) h =
-    four x free free free (cubeBytes n []) ∙ rw (write-padded n [] (omega arith)) (let e : 4 * suc n - 1 ≡ suc (suc (suc (4 * n - 0))) = omega arith in rw e)
+    four x free free free (cube_bytes n []) ∙ rw (write-padded n [] (omega arith)) (let e : 4 * suc n - 1 ≡ suc (suc (suc (4 * n - 0))) = omega arith in rw e)
 write-padded (suc n) (x ∷ y ∷ []) h =
-    four x y free free (cubeBytes n []) ∙ rw (write-padded n [] (omega arith)) (let e : 4 * suc n - 2 ≡ suc (suc (4 * n - 0)) = omega arith in rw e)
+    four x y free free (cube_bytes n []) ∙ rw (write-padded n [] (omega arith)) (let e : 4 * suc n - 2 ≡ suc (suc (4 * n - 0)) = omega arith in rw e)
 write-padded (suc n) (x ∷ y ∷ z ∷ []) h =
-    four x y z free (cubeBytes n []) ∙ rw (write-padded n [] (omega arith)) (let e : 4 * suc n - 3 ≡ suc (4 * n - 0) = omega arith in rw e)
+    four x y z free (cube_bytes n []) ∙ rw (write-padded n [] (omega arith)) (let e : 4 * suc n - 3 ≡ suc (4 * n - 0) = omega arith in rw e)
 write-padded (suc n) (x ∷ y ∷ z ∷ v ∷ c) h =
     let e : 4 * suc n - suc (suc (suc (suc (length c)))) ≡ 4 * n - length c = omega arith in
-    four x y z v (cubeBytes n c) ∙ rw (write-padded n c (omega arith), e)
+    four x y z v (cube_bytes n c) ∙ rw (write-padded n c (omega arith), e)
 
-pub write-length : (n : ℕ) (c : Cube) → length (cubeBytes n c) ≡ n
-unfolding cubeBytes
+pub write-length : (n : ℕ) (c : Cube) → length (cube_bytes n c) ≡ n
+unfolding cube_bytes
 write-length zero c = refl
 write-length (suc n) c = ap suc (write-length n (drop 4 c))
 
-pub write_bytes : (n : ℕ) (c : Cube) → Bytes (cubeBytes n c)
-unfolding cubeBytes
+pub write_bytes : (n : ℕ) (c : Cube) → Bytes (cube_bytes n c)
+unfolding cube_bytes
 write_bytes zero c = tt
 write_bytes (suc n) c =
     (omega (arith, number_lt (get_or c 0 free), number_lt (get_or c 1 free), number_lt (get_or c 2 free), number_lt (get_or c 3 free)), write_bytes n (drop 4 c))
 
-pub read-write : (c : Cube) → readCube (length c) (writeCube c) ≡ c
-unfolding readCube
+pub read-write : (c : Cube) → read_cube (length c) (write_cube c) ≡ c
+unfolding read_cube
 read-write c =
-    ap (take (length c)) (write-padded (cubeLen (length c)) c (omega arith)) ∙ take_at c (replicate (4 * cubeLen (length c) - length c) free) (length c) refl
+    ap (take (length c)) (write-padded (cube_len (length c)) c (omega arith)) ∙ take_at c (replicate (4 * cube_len (length c) - length c) free) (length c) refl
 
-all-free : (n : ℕ) → allFree (replicate n free) ≡ true
+all-free : (n : ℕ) → all_free (replicate n free) ≡ true
 all-free zero = refl
 all-free (suc n) = all-free n
 
-write-free : (c : Cube) → allFree (drop (length c) (codes (writeCube c))) ≡ true
+write-free : (c : Cube) → all_free (drop (length c) (codes (write_cube c))) ≡ true
 write-free c =
-    let spare = 4 * cubeLen (length c) - length c in
-    rw (write-padded (cubeLen (length c)) c (omega arith), drop_at c (replicate spare free) (length c) refl) (all-free spare)
+    let spare = 4 * cube_len (length c) - length c in
+    rw (write-padded (cube_len (length c)) c (omega arith), drop_at c (replicate spare free) (length c) refl) (all-free spare)
 
-pub write-accepted : (c : Cube) → solid c ≡ true → cubeFault (length c) (writeCube c) ≡ 0
-unfolding cubeFault
-write-accepted c e = sym (reached 2 (cubeRows (length c) (writeCube c)) (rw (read-write c, e), (rw (write-free c), tt)))
+pub write-accepted : (c : Cube) → solid c ≡ true → cube_fault (length c) (write_cube c) ≡ 0
+unfolding cube_fault
+write-accepted c e = sym (reached 2 (cube_rows (length c) (write_cube c)) (rw (read-write c, e), (rw (write-free c), tt)))
 
 -- a byte and its four codes
 digit : (x y : ℕ) → x < 4 → y < 4 → code_of x ≡ code_of y → x ≡ y
@@ -205,10 +205,10 @@ codes-tell (x ∷ a) (y ∷ b) ha hb e =
     let t = codes-tell a b ha.1 hb.1 (cc) in
     λ i. h i ∷ t i
 
-pub write_read : (w : ℕ) (bs : List ℕ) → length bs ≡ cubeLen w → Bytes bs → cubeFault w bs ≡ 0 → writeCube (readCube w bs) ≡ bs
+pub write_read : (w : ℕ) (bs : List ℕ) → length bs ≡ cube_len w → Bytes bs → cube_fault w bs ≡ 0 → write_cube (read_cube w bs) ≡ bs
 write_read w bs l h e =
     let n = read_length w bs l in
-    let m : length (readCube w bs) ≤ 4 * cubeLen w = omega arith in
+    let m : length (read_cube w bs) ≤ 4 * cube_len w = omega arith in
     rw (n)
-    (codes-tell (cubeBytes (cubeLen w) (readCube w bs)) bs (write_bytes (cubeLen w) (readCube w bs)) h
-    (write-padded (cubeLen w) (readCube w bs) m ∙ rw n (sym (read-padded w bs l e))))
+    (codes-tell (cube_bytes (cube_len w) (read_cube w bs)) bs (write_bytes (cube_len w) (read_cube w bs)) h
+    (write-padded (cube_len w) (read_cube w bs) m ∙ rw n (sym (read-padded w bs l e))))

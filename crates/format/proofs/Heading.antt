@@ -13,7 +13,7 @@ use mathlib.Core.Bool.{Bool, true, false}
 use lib.ListN.{length, get_or, take, drop, replicate, length-drop}
 use lib.Seq.{take_at, drop_at}
 use Rattle.model.specs.Cube.{Header}
-use Rattle.format.specs.Bytes.{Bytes, headerLen, bit_of, bits, readHeader, weigh, octet, headerBytes, writeHeader, anyBit}
+use Rattle.format.specs.Bytes.{Bytes, header_len, bit_of, bits, read_header, weigh, octet, header_bytes, write_header, any_bit}
 
 -- positions
 pub length-bits : (bs : List ℕ) → length (bits bs) ≡ 8 * length bs
@@ -92,44 +92,44 @@ filled_next m zero (b ∷ h) = rw suc-sub-suc
 filled_next m (suc k) [] = let e : suc m - 0 ≡ suc (m - 0) = omega arith in rw e
 filled_next m (suc k) (b ∷ h) = filled_next m k h
 
-bits-filled : (n : ℕ) (h : Header) → length h ≤ 8 * n → bits (headerBytes n h) ≡ filled (8 * n) h
-unfolding headerBytes
+bits-filled : (n : ℕ) (h : Header) → length h ≤ 8 * n → bits (header_bytes n h) ≡ filled (8 * n) h
+unfolding header_bytes
 bits-filled zero [] l = unfold filled in refl
 bits-filled zero (b ∷ h) l = absurd (omega arith)
 bits-filled (suc n) h l =
     let e : 8 * suc n ≡ suc (suc (suc (suc (suc (suc (suc (suc (8 * n)))))))) = omega arith in
     let m : length (drop 8 h) ≤ 8 * n = simp length-drop (omega arith) in
-    octet-bits h (headerBytes n (drop 8 h))
+    octet-bits h (header_bytes n (drop 8 h))
     ∙ rw (bits-filled n (drop 8 h) m, e)
     (rw (filled_next _ 0 h, filled_next _ 1 h, filled_next _ 2 h, filled_next _ 3 h)
     (rw (filled_next _ 4 h, filled_next _ 5 h, filled_next _ 6 h, filled_next _ 7 h)))
 
-pub bits-written : (n : ℕ) (h : Header) → length h ≤ 8 * n → bits (headerBytes n h) ≡ h ++ replicate (8 * n - length h) false
+pub bits-written : (n : ℕ) (h : Header) → length h ≤ 8 * n → bits (header_bytes n h) ≡ h ++ replicate (8 * n - length h) false
 unfolding filled
 bits-written = bits-filled
 
-pub header-length : (n : ℕ) (h : Header) → length (headerBytes n h) ≡ n
-unfolding headerBytes
+pub header-length : (n : ℕ) (h : Header) → length (header_bytes n h) ≡ n
+unfolding header_bytes
 header-length zero h = refl
 header-length (suc n) h = ap suc (header-length n (drop 8 h))
 
-pub header-bytes : (n : ℕ) (h : Header) → Bytes (headerBytes n h)
-unfolding headerBytes
+pub header-bytes : (n : ℕ) (h : Header) → Bytes (header_bytes n h)
+unfolding header_bytes
 header-bytes zero h = tt
 header-bytes (suc n) h = (octet-lt h, header-bytes n (drop 8 h))
 
-pub read-written : (h : Header) → readHeader (length h) (writeHeader h) ≡ h
-unfolding readHeader
+pub read-written : (h : Header) → read_header (length h) (write_header h) ≡ h
+unfolding read_header
 read-written h =
-    ap (take (length h)) (bits-written (headerLen (length h)) h (omega arith)) ∙ take_at h (replicate (8 * headerLen (length h) - length h) false) (length h) refl
+    ap (take (length h)) (bits-written (header_len (length h)) h (omega arith)) ∙ take_at h (replicate (8 * header_len (length h) - length h) false) (length h) refl
 
-no-bit : (n : ℕ) → anyBit (replicate n false) ≡ false
+no-bit : (n : ℕ) → any_bit (replicate n false) ≡ false
 no-bit zero = refl
 no-bit (suc n) = no-bit n
 
-pub header-accepted : (h : Header) → (length (writeHeader h) ≡ headerLen (length h)) × (anyBit (drop (length h) (bits (writeHeader h))) ≡ false)
+pub header-accepted : (h : Header) → (length (write_header h) ≡ header_len (length h)) × (any_bit (drop (length h) (bits (write_header h))) ≡ false)
 header-accepted h =
-    let spare = 8 * headerLen (length h) - length h in (
-      header-length (headerLen (length h)) h,
-      rw (bits-written (headerLen (length h)) h (omega arith), drop_at h (replicate spare false) (length h) refl) (no-bit spare),
+    let spare = 8 * header_len (length h) - length h in (
+      header-length (header_len (length h)) h,
+      rw (bits-written (header_len (length h)) h (omega arith), drop_at h (replicate spare false) (length h) refl) (no-bit spare),
     )

@@ -7,9 +7,9 @@ use mathlib.Core.List.{List, []}
 use mathlib.Core.Bool.{Bool, true, false, cond}
 use lib.Dec.{leb, eqb}
 use lib.ListN.{length, take, drop}
-use Rattle.format.specs.Bytes.{cubeLen, cubeRows, cubeFault, lentRows, lentFault}
-use Rattle.format.specs.Records.{countAt, base_at, next_at, width_of, first_at, widthRows, widthFault, cubesFault, differenceRows, differenceFault}
-use Rattle.format.specs.Files.{faulty, whole, faultNumber, before, differencesFrom, readFile}
+use Rattle.format.specs.Bytes.{cube_len, cube_rows, cube_fault, lent_rows, lent_fault}
+use Rattle.format.specs.Records.{count_at, base_at, next_at, width_of, first_at, width_rows, width_fault, cubes_fault, difference_rows, difference_fault}
+use Rattle.format.specs.Files.{faulty, whole, fault_number, before, differences_from, read_file}
 use Rattle.format.proofs.Reached.{each}
 use Rattle.format.proofs.Filing.{before-number}
 
@@ -21,39 +21,39 @@ either : {A : Type 0} (f : A → ℕ) (b : Bool) (x y : A) → Refusal (f x) →
 either f true x y p q = p
 either f false x y p q = q
 
-cube-refusal : (w : ℕ) (bs : List ℕ) → Refusal (cubeFault w bs)
-unfolding cubeFault
-cube-refusal w bs = each Refusal (cubeRows w bs) (omega arith)
+cube-refusal : (w : ℕ) (bs : List ℕ) → Refusal (cube_fault w bs)
+unfolding cube_fault
+cube-refusal w bs = each Refusal (cube_rows w bs) (omega arith)
 
-pub lent-refusal : (w : ℕ) (bs : List ℕ) → Refusal (lentFault w bs)
-unfolding lentFault
-lent-refusal w bs = each Refusal (lentRows w bs) (omega arith)
+pub lent-refusal : (w : ℕ) (bs : List ℕ) → Refusal (lent_fault w bs)
+unfolding lent_fault
+lent-refusal w bs = each Refusal (lent_rows w bs) (omega arith)
 
 module _ (w : ℕ) (s : List ℕ) where
-  cubes-refusal : (k at : ℕ) → Refusal (cubesFault w s at k)
-  unfolding cubesFault
+  cubes-refusal : (k at : ℕ) → Refusal (cubes_fault w s at k)
+  unfolding cubes_fault
   cubes-refusal zero at = omega arith
   cubes-refusal (suc k) at =
-      let first = cubeFault w (take (cubeLen w) (drop at s)) in
-      either (λ f. f) (eqb first 0) _ _ (cubes-refusal k (at + cubeLen w)) (cube-refusal w (take (cubeLen w) (drop at s)))
+      let first = cube_fault w (take (cube_len w) (drop at s)) in
+      either (λ f. f) (eqb first 0) _ _ (cubes-refusal k (at + cube_len w)) (cube-refusal w (take (cube_len w) (drop at s)))
 
-  pub record-refusal : (alone : Bool) (n at : ℕ) → Refusal (differenceFault alone w n s at)
-  unfolding differenceFault
-  record-refusal alone n at = each Refusal (differenceRows alone w n s at) (omega (arith, cubes-refusal (countAt s at + 1) (base_at s at)))
+  pub record-refusal : (alone : Bool) (n at : ℕ) → Refusal (difference_fault alone w n s at)
+  unfolding difference_fault
+  record-refusal alone n at = each Refusal (difference_rows alone w n s at) (omega (arith, cubes-refusal (count_at s at + 1) (base_at s at)))
 
-  from-refusal : (t at n : ℕ) → Refusal (faultNumber (differencesFrom t w s at n))
-  unfolding differencesFrom
+  from-refusal : (t at n : ℕ) → Refusal (fault_number (differences_from t w s at n))
+  unfolding differences_from
   from-refusal zero at n = omega arith
   from-refusal (suc t) at n =
-      let f = differenceFault false w n s at in
-      let rest = differencesFrom t w s (next_at s at) (n + 1) in
-      let begun : Refusal (faultNumber (before at rest)) = rw (before-number at rest) (from-refusal t (next_at s at) (n + 1)) in
-      either faultNumber (leb (length s) at) (whole []) _ (omega arith) (either faultNumber (eqb f 0) _ (faulty f at) begun (record-refusal false n at))
+      let f = difference_fault false w n s at in
+      let rest = differences_from t w s (next_at s at) (n + 1) in
+      let begun : Refusal (fault_number (before at rest)) = rw (before-number at rest) (from-refusal t (next_at s at) (n + 1)) in
+      either fault_number (leb (length s) at) (whole []) _ (omega arith) (either fault_number (eqb f 0) _ (faulty f at) begun (record-refusal false n at))
 
-pub width-refusal : (s : List ℕ) → Refusal (widthFault s)
-unfolding widthFault
-width-refusal s = each Refusal (widthRows s) (omega arith)
+pub width-refusal : (s : List ℕ) → Refusal (width_fault s)
+unfolding width_fault
+width-refusal s = each Refusal (width_rows s) (omega arith)
 
-pub file-refusal : (s : List ℕ) → Refusal (faultNumber (readFile s))
-unfolding readFile
-file-refusal s = either faultNumber (eqb (widthFault s) 0) _ (faulty (widthFault s) 0) (from-refusal (width_of s) s (length s) (first_at s) 0) (width-refusal s)
+pub file-refusal : (s : List ℕ) → Refusal (fault_number (read_file s))
+unfolding read_file
+file-refusal s = either fault_number (eqb (width_fault s) 0) _ (faulty (width_fault s) 0) (from-refusal (width_of s) s (length s) (first_at s) 0) (width-refusal s)

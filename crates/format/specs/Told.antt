@@ -4,17 +4,17 @@
 --   Permitted t old r new == what the contract of a call with a buffer permits: the result r is that of t, and the buffer, old before, is now new, with
 --                      the bytes of t over its front
 --   silent a        == the result a, and nothing is written
---   widthTests, cubeTests, recordTests, fileTests == the tests of a width given directly, and of an operand
---   bitsTests n used bs  == the tests of the bytes of n positions of which the first `used` may be set
---   twoCubes, oneRecord, twoRecords == the tests of a width given directly, and then of two cubes, of one record, of two
---   wide, lentCube, lentRecord, lentFile, lentBits == the table k, after such tests
---   lentHeader w h k == the table k, after the tests of a header of w positions
---   yesOr b         == yes where b is true, else no
+--   width_tests, cube_tests, record_tests, file_tests == the tests of a width given directly, and of an operand
+--   bits_tests n used bs  == the tests of the bytes of n positions of which the first `used` may be set
+--   two_cubes, one_record, two_records == the tests of a width given directly, and then of two cubes, of one record, of two
+--   wide, lent_cube, lent_record, lent_file, lent_bits == the table k, after such tests
+--   lent_header w h k == the table k, after the tests of a header of w positions
+--   yes_or b         == yes where b is true, else no
 --   belonging x     == what the first difference that holds a header tells: yes with its index, or no where there is none
 --   writing bs room == the bytes bs are to be written into a buffer of that room
---   anyLong r       == some difference of r has more cuts than may be written
---   writingFile r bs room  == the region r is to be written, as the bytes bs
---   writingRegion w r room == the tidied region r is to be written
+--   any_long r       == some difference of r has more cuts than may be written
+--   writing_file r bs room  == the region r is to be written, as the bytes bs
+--   writing_region w r room == the tidied region r is to be written
 --   deciding w d           == what the decision d of a walk tells, with the index of what decided and the header that it shows
 --   walking w n room i v   == the walk v, which stops at the index i, is answered with the allowance n, into a header buffer of that room
 use Rattle.std.specs.Prelude.{ℕ, ◌≡◌, List, [], ◌∷◌, ◌++◌, Bool, true, false, ◌||◌, ltb, length, drop}
@@ -25,10 +25,10 @@ use Rattle.answer.specs.declared.Answer.{Answer}
 use Rattle.answer.specs.Answer as forms
 use Rattle.answer.specs.Answer.{accepted, yes, no, holding, refused, fault, counted, showing, wrote}
 use Rattle.format.specs.Rows.{Rows, last, row, onto, then, below, is, isnt, so}
-use Rattle.format.specs.Limits.{widest, mostCuts, mostDifferences}
-use Rattle.format.specs.Bytes.{headerLen, bits, anyBit, writeHeader, lentFault}
-use Rattle.format.specs.Records.{differenceFault, fileBytes}
-use Rattle.format.specs.Files.{readFile, faultNumber, faultOffset}
+use Rattle.format.specs.Limits.{widest, most_cuts, most_differences}
+use Rattle.format.specs.Bytes.{header_len, bits, any_bit, write_header, lent_fault}
+use Rattle.format.specs.Records.{difference_fault, file_bytes}
+use Rattle.format.specs.Files.{read_file, fault_number, fault_offset}
 
 -- FORMAT 122
 pub record Told : Type 0 where
@@ -50,69 +50,69 @@ silent a = record { answer = a; bytes = [] }
 
 -- the tests of what is lent, each a table of refusals whose last line, the number 0, refuses nothing
 -- FORMAT 35; of a W that is given directly (FORMAT 28)
-abbrev pub widthTests : ℕ → Rows Answer
-widthTests w =
+abbrev pub width_tests : ℕ → Rows Answer
+width_tests w =
     row (is w 0) (refused 10)
     (row (below widest w) (refused 10)
     (last accepted))
 
 -- FORMAT 29
-abbrev pub cubeTests : ℕ → List ℕ → ℕ → Rows Answer
-cubeTests w c operand =
-    row (isnt (lentFault w c) 0) (fault (lentFault w c) operand 0)
+abbrev pub cube_tests : ℕ → List ℕ → ℕ → Rows Answer
+cube_tests w c operand =
+    row (isnt (lent_fault w c) 0) (fault (lent_fault w c) operand 0)
     (last accepted)
 
 -- FORMAT 25
-abbrev pub recordTests : ℕ → List ℕ → ℕ → Rows Answer
-recordTests w s operand =
-    row (isnt (differenceFault true w 0 s 0) 0) (fault (differenceFault true w 0 s 0) operand 0)
+abbrev pub record_tests : ℕ → List ℕ → ℕ → Rows Answer
+record_tests w s operand =
+    row (isnt (difference_fault true w 0 s 0) 0) (fault (difference_fault true w 0 s 0) operand 0)
     (last accepted)
 
 -- FORMAT 27
-abbrev pub fileTests : List ℕ → ℕ → Rows Answer
-fileTests s operand =
-    row (isnt (faultNumber (readFile s)) 0) (fault (faultNumber (readFile s)) operand (faultOffset (readFile s)))
+abbrev pub file_tests : List ℕ → ℕ → Rows Answer
+file_tests s operand =
+    row (isnt (fault_number (read_file s)) 0) (fault (fault_number (read_file s)) operand (fault_offset (read_file s)))
     (last accepted)
 
 -- FORMAT 36; `used` bits may be set (FORMAT 14, 80)
-abbrev pub bitsTests : ℕ → ℕ → List ℕ → Rows Answer
-bitsTests n used bs =
-    row (isnt (length bs) (headerLen n)) (refused 11)
-    (row (so (anyBit (drop used (bits bs)))) (refused 11)
+abbrev pub bits_tests : ℕ → ℕ → List ℕ → Rows Answer
+bits_tests n used bs =
+    row (isnt (length bs) (header_len n)) (refused 11)
+    (row (so (any_bit (drop used (bits bs)))) (refused 11)
     (last accepted))
 
 -- what several calls start with: W given directly, and then two cubes, one record or two
-abbrev pub twoCubes : ℕ → List ℕ → List ℕ → Rows Answer
-twoCubes w a b = then (widthTests w) (then (cubeTests w a 1) (cubeTests w b 2))
+abbrev pub two_cubes : ℕ → List ℕ → List ℕ → Rows Answer
+two_cubes w a b = then (width_tests w) (then (cube_tests w a 1) (cube_tests w b 2))
 
-abbrev pub oneRecord : ℕ → List ℕ → Rows Answer
-oneRecord w s = then (widthTests w) (recordTests w s 1)
+abbrev pub one_record : ℕ → List ℕ → Rows Answer
+one_record w s = then (width_tests w) (record_tests w s 1)
 
-abbrev pub twoRecords : ℕ → List ℕ → List ℕ → Rows Answer
-twoRecords w s t = then (oneRecord w s) (recordTests w t 2)
+abbrev pub two_records : ℕ → List ℕ → List ℕ → Rows Answer
+two_records w s t = then (one_record w s) (record_tests w t 2)
 
 -- FORMAT 53: a call's table behind such tests
 abbrev pub wide : ℕ → Rows Told → Rows Told
-wide w k = onto silent (widthTests w) k
+wide w k = onto silent (width_tests w) k
 
-abbrev pub lentCube : ℕ → List ℕ → ℕ → Rows Told → Rows Told
-lentCube w c operand k = onto silent (cubeTests w c operand) k
+abbrev pub lent_cube : ℕ → List ℕ → ℕ → Rows Told → Rows Told
+lent_cube w c operand k = onto silent (cube_tests w c operand) k
 
-abbrev pub lentRecord : ℕ → List ℕ → ℕ → Rows Told → Rows Told
-lentRecord w s operand k = onto silent (recordTests w s operand) k
+abbrev pub lent_record : ℕ → List ℕ → ℕ → Rows Told → Rows Told
+lent_record w s operand k = onto silent (record_tests w s operand) k
 
-abbrev pub lentFile : List ℕ → ℕ → Rows Told → Rows Told
-lentFile s operand k = onto silent (fileTests s operand) k
+abbrev pub lent_file : List ℕ → ℕ → Rows Told → Rows Told
+lent_file s operand k = onto silent (file_tests s operand) k
 
-abbrev pub lentBits : ℕ → ℕ → List ℕ → Rows Told → Rows Told
-lentBits n used bs k = onto silent (bitsTests n used bs) k
+abbrev pub lent_bits : ℕ → ℕ → List ℕ → Rows Told → Rows Told
+lent_bits n used bs k = onto silent (bits_tests n used bs) k
 
-abbrev pub lentHeader : ℕ → List ℕ → Rows Told → Rows Told
-lentHeader w h k = lentBits w w h k
+abbrev pub lent_header : ℕ → List ℕ → Rows Told → Rows Told
+lent_header w h k = lent_bits w w h k
 
 -- FORMAT 33: yes where b is true
-abbrev pub yesOr : Bool → Rows Told
-yesOr b =
+abbrev pub yes_or : Bool → Rows Told
+yes_or b =
     row (so b) (silent yes)
     (last (silent no))
 
@@ -127,29 +127,29 @@ writing bs room =
     row (below room (length bs)) (silent (refused 22))
     (last (record { answer = wrote (length bs); bytes = bs }))
 
-abbrev pub anyLong : Region → Bool
-anyLong [] = false
-anyLong (d ∷ r) = ltb mostCuts (length d.cuts) || anyLong r
+abbrev pub any_long : Region → Bool
+any_long [] = false
+any_long (d ∷ r) = ltb most_cuts (length d.cuts) || any_long r
 
 -- FORMAT 43, 44, in the order of 54
-abbrev pub writingFile : Region → List ℕ → ℕ → Rows Told
-writingFile r bs room =
-    row (so (anyLong r)) (silent (refused 18))
-    (row (below mostDifferences (length r)) (silent (refused 19))
+abbrev pub writing_file : Region → List ℕ → ℕ → Rows Told
+writing_file r bs room =
+    row (so (any_long r)) (silent (refused 18))
+    (row (below most_differences (length r)) (silent (refused 19))
     (writing bs room))
 
 -- FORMAT 54, 71
-abbrev pub writingRegion : ℕ → Region → ℕ → Rows Told
-writingRegion w r room = writingFile r (fileBytes w r) room
+abbrev pub writing_region : ℕ → Region → ℕ → Rows Told
+writing_region w r room = writing_file r (file_bytes w r) room
 
 -- FORMAT 33, 34, 50, 51, 152
 abbrev pub deciding : ℕ → Decision → Told
 deciding w (undecided n i) = silent (forms.undecided n i)
 deciding w (empty n) = silent (counted 1 n)
-deciding w (member n i p) = record { answer = showing n (headerLen w) i; bytes = writeHeader (shown p) }
+deciding w (member n i p) = record { answer = showing n (header_len w) i; bytes = write_header (shown p) }
 
 -- FORMAT 47, 62
 abbrev pub walking : ℕ → ℕ → ℕ → ℕ → Found → Rows Told
 walking w n room i v =
-    row (below room (headerLen w)) (silent (refused 22))
+    row (below room (header_len w)) (silent (refused 22))
     (last (deciding w (decide n i v)))

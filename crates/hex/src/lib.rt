@@ -1,11 +1,11 @@
 // Bytes in capital hex.
 ghost use Rattle.std.specs.Prelude.{◌<◌, min, ◌≡◌};
-ghost use Rattle.hex.specs.Digits.{hexDigit, InHex};
+ghost use Rattle.hex.specs.Digits.{hex_digit, InHex};
 
 // The digit of a number below 16.
 fn digit(n: u8) -> u8
     requires { n < 16 }
-    ensures { result ≡ hexDigit n }
+    ensures { result ≡ hex_digit n }
 {
     if n < 10 { 48 + n } else { 55 + n }
 }

@@ -5,9 +5,9 @@ use native.Mathlib.Omega.{arith}
 use mathlib.Core.Path.{◌≡◌, refl, sym, ◌∙◌}
 use mathlib.Core.List.{List, [], ◌∷◌, map}
 use mathlib.Core.Bool.{Bool, true, false, cond, true≢false, false≢true}
-use Rattle.model.specs.Cube.{Code, none, v0, v1, free, Cube, meetCode, coded, shares}
+use Rattle.model.specs.Cube.{Code, none, v0, v1, free, Cube, meet_code, coded, shares}
 use Rattle.model.specs.Walk.{opens, other, children, Survivor, nothing, piece, Found, joined, in_turn, visit}
-use Rattle.model.specs.Alike.{opensAll, Alike, SameWalk}
+use Rattle.model.specs.Alike.{opens_all, Alike, SameWalk}
 use Rattle.model.proofs.Bools.{and_left, and_right}
 use Rattle.model.proofs.Turns.{visit-none, visit-met, visit-passed, visit-by}
 use Rattle.model.proofs.Parts.{Part, keep, fix, part-self, wider-shares}
@@ -24,13 +24,13 @@ narrowed-parts (stay n) = let t = narrowed-parts n in (keep t.0, keep t.1)
 narrowed-parts (value e n) = let t = narrowed-parts n in (fix e t.0, fix e t.1)
 
 -- a cut that both meet
-narrowed-met : {p q r s : Cube} → Narrowed p q r s → (c : Cube) → shares p c ≡ true → shares q c ≡ true → opensAll p c ≡ opensAll q c
-    → (shares r c ≡ shares s c) × (opensAll r c ≡ opensAll s c)
+narrowed-met : {p q r s : Cube} → Narrowed p q r s → (c : Cube) → shares p c ≡ true → shares q c ≡ true → opens_all p c ≡ opens_all q c
+    → (shares r c ≡ shares s c) × (opens_all r c ≡ opens_all s c)
 narrowed-met rest c e f o = (e ∙ sym f, o)
 narrowed-met (stay n) [] e f o = (refl, refl)
 narrowed-met (stay {x = x} {y = y} {p = p} {q = q} {r = r} {s = s} n) (z ∷ c) e f o =
-    let t = narrowed-met n c (and_right (coded (meetCode x z)) (shares p c) e) (and_right (coded (meetCode y z)) (shares q c) f) (cc) in (
-      rw (and_left (coded (meetCode x z)) (shares p c) e, and_left (coded (meetCode y z)) (shares q c) f) t.0,
+    let t = narrowed-met n c (and_right (coded (meet_code x z)) (shares p c) e) (and_right (coded (meet_code y z)) (shares q c) f) (cc) in (
+      rw (and_left (coded (meet_code x z)) (shares p c) e, and_left (coded (meet_code y z)) (shares q c) f) t.0,
       cc,
     )
 narrowed-met (value d n) [] e f o = (refl, refl)
@@ -50,7 +50,7 @@ narrowed-alike : {p q r s : Cube} → Narrowed p q r s → (cs : List Cube) → 
 narrowed-alike n [] a = tt
 narrowed-alike {p} {q} {r} {s} n (c ∷ cs) a = let t = go (shares p c) refl in (t.0, t.1, narrowed-alike n cs a.2)
   where
-    go : (g : Bool) → shares p c ≡ g → (shares r c ≡ shares s c) × (shares r c ≡ true → opensAll r c ≡ opensAll s c)
+    go : (g : Bool) → shares p c ≡ g → (shares r c ≡ shares s c) × (shares r c ≡ true → opens_all r c ≡ opens_all s c)
     go true m = let t = narrowed-met n c m (sym a.0 ∙ m) (a.1 m) in (t.0, λ k. t.1)
     go false m =
         let t = narrowed-parts n in
@@ -79,7 +79,7 @@ opens-true free v0 e = (refl, refl, refl)
 opens-true free v1 e = (refl, refl, refl)
 opens-true free free e = absurd (false≢true e)
 
-children-narrowed : (p q c : Cube) → shares p c ≡ true → shares q c ≡ true → opensAll p c ≡ opensAll q c → Pairs (Narrowed p q) (children p c) (children q c)
+children-narrowed : (p q c : Cube) → shares p c ≡ true → shares q c ≡ true → opens_all p c ≡ opens_all q c → Pairs (Narrowed p q) (children p c) (children q c)
 children-narrowed [] [] c e f o = tt
 children-narrowed [] (y ∷ q) [] e f o = absurd (false≢true f)
 children-narrowed [] (y ∷ q) (z ∷ c) e f o = absurd (false≢true e)
@@ -87,7 +87,7 @@ children-narrowed (x ∷ p) q [] e f o = absurd (false≢true e)
 children-narrowed (x ∷ p) [] (z ∷ c) e f o = absurd (false≢true f)
 children-narrowed (x ∷ p) (y ∷ q) (z ∷ c) e f o =
     rw (← same)
-    (go (opens x z) refl (children-narrowed p q c (and_right (coded (meetCode x z)) (shares p c) e) (and_right (coded (meetCode y z)) (shares q c) f) (cc)))
+    (go (opens x z) refl (children-narrowed p q c (and_right (coded (meet_code x z)) (shares p c) e) (and_right (coded (meet_code y z)) (shares q c) f) (cc)))
   where
     same : opens x z ≡ opens y z
     same = cc

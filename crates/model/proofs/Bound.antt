@@ -1,8 +1,8 @@
 -- The first bound on the pieces of a walk, cut by cut, and the ceiling.
 --   pieces-at-most-ceiling   the walk visits no more pieces than the ceiling
---   capped-at-most           a capped number is at most mostPieces and at most the number
+--   capped-at-most           a capped number is at most most_pieces and at most the number
 --   capped-above             what is at most both is at most the capped number
---   capped_same              a number that is at most mostPieces stays
+--   capped_same              a number that is at most most_pieces stays
 use Prim.Native.Nat.{ℕ, ◌+◌, ◌*◌, ◌≤◌}
 use native.Mathlib.Nat.{suc-mul, one-mul, mul-le-mul_right, le_refl, le-min}
 use native.Mathlib.Omega.{arith}
@@ -12,11 +12,11 @@ use mathlib.Core.Bool.{Bool, true, false, ◌&&◌, cond, true≢false, false≢
 use lib.Dec.{leb}
 use lib.ListN.{length, length-map}
 use borrow.Author.Tests.{leb-true, leb-false}
-use Rattle.model.specs.Cube.{Code, none, v0, v1, free, Cube, meetCode, coded, shares}
+use Rattle.model.specs.Cube.{Code, none, v0, v1, free, Cube, meet_code, coded, shares}
 use Rattle.model.specs.Difference.{Difference}
 use Rattle.model.specs.Sized.{All}
 use Rattle.model.specs.Walk.{opens, other, children, Found, in_turn, visit, walk}
-use Rattle.model.specs.Ceiling.{frees, ceilingFrom, ceiling, mostPieces, capped}
+use Rattle.model.specs.Ceiling.{frees, ceiling_from, ceiling, most_pieces, capped}
 use Rattle.model.proofs.Bools.{and_left, and_right}
 use Rattle.model.proofs.Turns.{visit-by, next-at-most}
 use Rattle.model.proofs.Spread.{pieces-at-most-over}
@@ -55,7 +55,7 @@ children-count (fix e s) [] = omega arith
 children-count (fix {x = x} {q = p} e s) (y ∷ c) = rw (opened-count x y p c) (omega (arith, children-count s c, opens-free x y))
 
 -- of a cut that a part does not meet and the base does, the base leaves a position free
-clash-opens : (x y : Code) → coded x ≡ true → coded y ≡ true → coded (meetCode x y) ≡ false → opens free y ≡ true
+clash-opens : (x y : Code) → coded x ≡ true → coded y ≡ true → coded (meet_code x y) ≡ false → opens free y ≡ true
 clash-opens x none d e f = cc
 clash-opens x v0 d e f = refl
 clash-opens x v1 d e f = refl
@@ -75,32 +75,32 @@ clash-frees done [] e f = absurd (true≢false e)
 clash-frees done (y ∷ c) e f = absurd (false≢true f)
 clash-frees (keep s) [] e f = absurd (false≢true f)
 clash-frees (keep {x = x} {q = p} {p = b} s) (y ∷ c) e f =
-    let g = coded (meetCode x y) in
+    let g = coded (meet_code x y) in
     omega (arith, clash-frees s c (and-rest g (shares p c) (shares b c) e f) (and_right g (shares b c) f))
 clash-frees (fix d s) [] e f = absurd (false≢true f)
-clash-frees (fix {x = x} {q = p} {p = b} d s) (y ∷ c) e f = go (coded (meetCode x y)) refl (λ q. clash-frees s c q (and_right (coded y) (shares b c) f)) e
+clash-frees (fix {x = x} {q = p} {p = b} d s) (y ∷ c) e f = go (coded (meet_code x y)) refl (λ q. clash-frees s c q (and_right (coded y) (shares b c) f)) e
   where
-    go : (g : Bool) → coded (meetCode x y) ≡ g → (shares p c ≡ false → 1 ≤ frees b c) → g && shares p c ≡ false
+    go : (g : Bool) → coded (meet_code x y) ≡ g → (shares p c ≡ false → 1 ≤ frees b c) → g && shares p c ≡ false
         → 1 ≤ cond (opens free y) 1 0 + frees b c
     go true m ih e = omega (arith, ih e)
     go false m ih e = rw (clash-opens x y d (and_left (coded y) (shares b c) f) m) (omega arith)
 
-part-at-most : (b : Cube) (cs : List Cube) (p : Cube) → Part p b → (visit cs p).pieces ≤ ceilingFrom b cs
-unfolding ceilingFrom
+part-at-most : (b : Cube) (cs : List Cube) (p : Cube) → Part p b → (visit cs p).pieces ≤ ceiling_from b cs
+unfolding ceiling_from
 part-at-most b =
-    visit-by (λ cs p v. Part p b → v.pieces ≤ ceilingFrom b cs)
+    visit-by (λ cs p v. Part p b → v.pieces ≤ ceiling_from b cs)
     (λ p s. omega arith)
     (λ c cs p m ih s.
-    let t = turn-count (visit cs) (ceilingFrom b cs) (λ x. Part x p) (λ x r. ih x (part-trans r s)) (children p c) (children-part p c) in
-    let u = mul-le-mul_right (ceilingFrom b cs) (children-count s c) in
+    let t = turn-count (visit cs) (ceiling_from b cs) (λ x. Part x p) (λ x r. ih x (part-trans r s)) (children p c) (children-part p c) in
+    let u = mul-le-mul_right (ceiling_from b cs) (children-count s c) in
     rw (wider-shares s c m) (omega arith))
     (λ c cs p m ih s. passed c cs p s m (ih s) (shares b c) refl)
   where
-    passed : (c : Cube) (cs : List Cube) (p : Cube) → Part p b → shares p c ≡ false → (visit cs p).pieces ≤ ceilingFrom b cs → (k : Bool)
+    passed : (c : Cube) (cs : List Cube) (p : Cube) → Part p b → shares p c ≡ false → (visit cs p).pieces ≤ ceiling_from b cs → (k : Bool)
         → shares b c ≡ k
-        → (visit cs p).pieces ≤ cond k (1 + frees b c * ceilingFrom b cs) (ceilingFrom b cs)
+        → (visit cs p).pieces ≤ cond k (1 + frees b c * ceiling_from b cs) (ceiling_from b cs)
     passed c cs p s m ih true n =
-        let t = mul-le-mul_right (ceilingFrom b cs) (clash-frees s c m n) in
+        let t = mul-le-mul_right (ceiling_from b cs) (clash-frees s c m n) in
         omega (arith, rw one-mul at t)
     passed c cs p s m ih false n = ih
 
@@ -108,19 +108,19 @@ pub pieces-at-most-ceiling : (d : Difference) → (walk d).pieces ≤ ceiling d
 pieces-at-most-ceiling d = le-min (part-at-most d.base d.cuts d.base (part-self d.base)) (pieces-at-most-over d)
 
 -- the cap
-pub capped-at-most : (n : ℕ) → (capped n ≤ mostPieces) × (capped n ≤ n)
-capped-at-most n = go (leb mostPieces n) refl
+pub capped-at-most : (n : ℕ) → (capped n ≤ most_pieces) × (capped n ≤ n)
+capped-at-most n = go (leb most_pieces n) refl
   where
-    go : (g : Bool) → leb mostPieces n ≡ g → (cond g mostPieces n ≤ mostPieces) × (cond g mostPieces n ≤ n)
-    go true e = (le_refl _, leb-true mostPieces n e)
-    go false e = (omega (arith, leb-false mostPieces n e), le_refl _)
+    go : (g : Bool) → leb most_pieces n ≡ g → (cond g most_pieces n ≤ most_pieces) × (cond g most_pieces n ≤ n)
+    go true e = (le_refl _, leb-true most_pieces n e)
+    go false e = (omega (arith, leb-false most_pieces n e), le_refl _)
 
-pub capped-above : (m n : ℕ) → m ≤ mostPieces → m ≤ n → m ≤ capped n
-capped-above m n h k = go (leb mostPieces n)
+pub capped-above : (m n : ℕ) → m ≤ most_pieces → m ≤ n → m ≤ capped n
+capped-above m n h k = go (leb most_pieces n)
   where
-    go : (g : Bool) → m ≤ cond g mostPieces n
+    go : (g : Bool) → m ≤ cond g most_pieces n
     go true = h
     go false = k
 
-pub capped_same : (n : ℕ) → n ≤ mostPieces → capped n ≡ n
+pub capped_same : (n : ℕ) → n ≤ most_pieces → capped n ≡ n
 capped_same n h = omega (arith, capped-at-most n, capped-above n n h (le_refl n))

@@ -11,7 +11,7 @@ use mathlib.Core.Bool.{Bool, true, false, cond}
 use lib.ListN.{length, length-map}
 use Rattle.model.specs.Cube.{Cube, shares}
 use Rattle.model.specs.Difference.{Difference, less}
-use Rattle.model.specs.Ceiling.{ceilingFrom, meeting, mark, matters, ceilingOver, ceiling}
+use Rattle.model.specs.Ceiling.{ceiling_from, meeting, mark, matters, ceiling_over, ceiling}
 
 -- what a cut adds nothing to in front, it adds nothing to anywhere
 wherever : {A : Type 0} (f : List Cube → A) (c : Cube) → ((x : Cube) (l m : List Cube) → f l ≡ f m → f (x ∷ l) ≡ f (x ∷ m))
@@ -20,9 +20,9 @@ wherever f c behind front [] ds = front ds
 wherever f c behind front (x ∷ cs) ds = behind x (cs ++ (c ∷ ds)) (cs ++ ds) (wherever f c behind front cs ds)
 
 module _ (b c : Cube) (e : shares b c ≡ false) where
-  from-missed : (cs ds : List Cube) → ceilingFrom b (cs ++ (c ∷ ds)) ≡ ceilingFrom b (cs ++ ds)
-  unfolding ceilingFrom
-  from-missed = wherever (ceilingFrom b) c (λ x l m h. rw h) (λ ds. rw e)
+  from-missed : (cs ds : List Cube) → ceiling_from b (cs ++ (c ∷ ds)) ≡ ceiling_from b (cs ++ ds)
+  unfolding ceiling_from
+  from-missed = wherever (ceiling_from b) c (λ x l m h. rw h) (λ ds. rw e)
 
   meeting-missed : (cs ds : List Cube) → meeting b (cs ++ (c ∷ ds)) ≡ meeting b (cs ++ ds)
   unfolding meeting
@@ -35,7 +35,7 @@ module _ (b c : Cube) (e : shares b c ≡ false) where
   pub ceiling-missed : (cs ds : List Cube) → ceiling (less b (cs ++ (c ∷ ds))) ≡ ceiling (less b (cs ++ ds))
   ceiling-missed cs ds = rw (from-missed cs ds, meeting-missed cs ds, matters-missed cs ds)
 
-pub ceiling-at-most : (d : Difference) → (ceiling d ≤ ceilingFrom d.base d.cuts) × (ceiling d ≤ ceilingOver d.base d.cuts)
+pub ceiling-at-most : (d : Difference) → (ceiling d ≤ ceiling_from d.base d.cuts) × (ceiling d ≤ ceiling_over d.base d.cuts)
 ceiling-at-most d = (min-le_left _ _, min-le_right _ _)
 
 -- the marks

@@ -13,11 +13,11 @@ use lib.ListN.{length}
 use mathlib.Core.Path.{◌≡◌, refl, sym, ap, ap₂, ◌∙◌}
 use mathlib.Core.List.{[], ◌∷◌}
 use mathlib.Core.Bool.{Bool, true, false, ◌&&◌, and-false, true≢false}
-use Rattle.model.specs.Cube.{Header, Code, none, v0, v1, free, Cube, admits, holds, meetCode, nones, meet, coded, solid, shares, sameCode, same, within, shownBit, shown}
+use Rattle.model.specs.Cube.{Header, Code, none, v0, v1, free, Cube, admits, holds, meet_code, nones, meet, coded, solid, shares, same_code, same, within, shown_bit, shown}
 use Rattle.model.proofs.Bools.{and_left, and_right, and_both, and-swap}
 
 -- one position
-admits-meet : (x y : Code) (b : Bool) → admits (meetCode x y) b ≡ admits x b && admits y b
+admits-meet : (x y : Code) (b : Bool) → admits (meet_code x y) b ≡ admits x b && admits y b
 admits-meet none y b = refl
 admits-meet v0 none true = refl
 admits-meet v0 none false = refl
@@ -49,7 +49,7 @@ in_meet (x ∷ a) (y ∷ b) (i ∷ h) =
     ap₂ (λ (p q : Bool). p && q) (admits-meet x y i) (in_meet a b h) ∙ and-swap (admits x i) (admits y i) (holds a h) (holds b h)
 
 -- a cube has a header exactly when it has no `none`
-admits-shown : (x : Code) → coded x ≡ true → admits x (shownBit x) ≡ true
+admits-shown : (x : Code) → coded x ≡ true → admits x (shown_bit x) ≡ true
 admits-shown none e = e
 admits-shown v0 e = refl
 admits-shown v1 e = refl
@@ -58,7 +58,7 @@ admits-shown free e = refl
 pub in-shown : (c : Cube) → solid c ≡ true → holds c (shown c) ≡ true
 in-shown [] e = refl
 in-shown (x ∷ c) e =
-    and_both (admits x (shownBit x)) (holds c (shown c)) (admits-shown x (and_left (coded x) (solid c) e)) (in-shown c (and_right (coded x) (solid c) e))
+    and_both (admits x (shown_bit x)) (holds c (shown c)) (admits-shown x (and_left (coded x) (solid c) e)) (in-shown c (and_right (coded x) (solid c) e))
 
 in-coded : (x : Code) (b : Bool) → admits x b ≡ true → coded x ≡ true
 in-coded none b e = e
@@ -84,32 +84,32 @@ pub apart_none : (a b : Cube) (h : Header) → shares a b ≡ false → holds a 
 apart_none a b h e = not-true (holds a h && holds b h) (λ t. true≢false (sym (in-solid (meet a b) h (in_meet a b h ∙ t)) ∙ e))
 
 -- equality
-same_code : (x y : Code) → sameCode x y ≡ true → x ≡ y
-same_code none none e = refl
-same_code none v0 e = cc
-same_code none v1 e = cc
-same_code none free e = cc
-same_code v0 none e = cc
-same_code v0 v0 e = refl
-same_code v0 v1 e = cc
-same_code v0 free e = cc
-same_code v1 none e = cc
-same_code v1 v0 e = cc
-same_code v1 v1 e = refl
-same_code v1 free e = cc
-same_code free none e = cc
-same_code free v0 e = cc
-same_code free v1 e = cc
-same_code free free e = refl
+same_code-is : (x y : Code) → same_code x y ≡ true → x ≡ y
+same_code-is none none e = refl
+same_code-is none v0 e = cc
+same_code-is none v1 e = cc
+same_code-is none free e = cc
+same_code-is v0 none e = cc
+same_code-is v0 v0 e = refl
+same_code-is v0 v1 e = cc
+same_code-is v0 free e = cc
+same_code-is v1 none e = cc
+same_code-is v1 v0 e = cc
+same_code-is v1 v1 e = refl
+same_code-is v1 free e = cc
+same_code-is free none e = cc
+same_code-is free v0 e = cc
+same_code-is free v1 e = cc
+same_code-is free free e = refl
 
 pub same-is : (a b : Cube) → same a b ≡ true → a ≡ b
 same-is [] [] e = refl
 same-is [] (y ∷ b) e = cc
 same-is (x ∷ a) [] e = cc
 same-is (x ∷ a) (y ∷ b) e =
-    ap₂ (λ (z : Code) (c : Cube). z ∷ c) (same_code x y (and_left (sameCode x y) (same a b) e)) (same-is a b (and_right (sameCode x y) (same a b) e))
+    ap₂ (λ (z : Code) (c : Cube). z ∷ c) (same_code-is x y (and_left (same_code x y) (same a b) e)) (same-is a b (and_right (same_code x y) (same a b) e))
 
-code-self : (x : Code) → sameCode x x ≡ true
+code-self : (x : Code) → same_code x x ≡ true
 code-self none = refl
 code-self v0 = refl
 code-self v1 = refl
@@ -117,10 +117,10 @@ code-self free = refl
 
 pub same_self : (a : Cube) → same a a ≡ true
 same_self [] = refl
-same_self (x ∷ a) = and_both (sameCode x x) (same a a) (code-self x) (same_self a)
+same_self (x ∷ a) = and_both (same_code x x) (same a a) (code-self x) (same_self a)
 
 -- meeting twice
-code-again : (x y : Code) → meetCode x (meetCode x y) ≡ meetCode x y
+code-again : (x y : Code) → meet_code x (meet_code x y) ≡ meet_code x y
 code-again none y = refl
 code-again v0 none = refl
 code-again v0 v0 = refl
@@ -154,7 +154,7 @@ within_in a b h e i =
     and_right (holds a h) (holds b h) (sym (in_meet a b h) ∙ ap (λ (c : Cube). holds c h) (same-is (meet a b) a e) ∙ i)
 
 -- a bit that x admits and y does not
-code_out : (x y : Code) → coded x ≡ true → sameCode (meetCode x y) x ≡ false → (b : Bool) × (admits x b ≡ true) × (admits y b ≡ false)
+code_out : (x y : Code) → coded x ≡ true → same_code (meet_code x y) x ≡ false → (b : Bool) × (admits x b ≡ true) × (admits y b ≡ false)
 code_out none y c e = absurd (true≢false (sym c))
 code_out v0 none c e = (false, refl, refl)
 code_out v0 v0 c e = absurd (true≢false e)
@@ -174,18 +174,18 @@ within-out [] [] s e = absurd (true≢false e)
 within-out [] (y ∷ b) s e = ([], refl, refl)
 within-out (x ∷ a) [] s e = (shown (x ∷ a), in-shown (x ∷ a) s, refl)
 within-out (x ∷ a) (y ∷ b) s e =
-    go (λ q. within-out a b (and_right (coded x) (solid a) s) q) (sameCode (meetCode x y) x) refl e
+    go (λ q. within-out a b (and_right (coded x) (solid a) s) q) (same_code (meet_code x y) x) refl e
   where
     first : coded x ≡ true
     first = and_left (coded x) (solid a) s
 
-    go : (within a b ≡ false → (h : Header) × (holds a h ≡ true) × (holds b h ≡ false)) → (g : Bool) → sameCode (meetCode x y) x ≡ g → g && within a b ≡ false
+    go : (within a b ≡ false → (h : Header) × (holds a h ≡ true) × (holds b h ≡ false)) → (g : Bool) → same_code (meet_code x y) x ≡ g → g && within a b ≡ false
         → (h : Header) × (holds (x ∷ a) h ≡ true) × (holds (y ∷ b) h ≡ false)
     go ih true p q =
         let r = ih q in (
-          shownBit x ∷ r.0,
-          and_both (admits x (shownBit x)) (holds a r.0) (admits-shown x first) r.1,
-          ap (λ (z : Bool). admits y (shownBit x) && z) r.2 ∙ and-false (admits y (shownBit x)),
+          shown_bit x ∷ r.0,
+          and_both (admits x (shown_bit x)) (holds a r.0) (admits-shown x first) r.1,
+          ap (λ (z : Bool). admits y (shown_bit x) && z) r.2 ∙ and-false (admits y (shown_bit x)),
         )
     go ih false p q =
         let t = code_out x y first p in (

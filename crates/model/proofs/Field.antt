@@ -17,10 +17,10 @@ use lib.ListN.{length, get_or, take, drop, set, replicate, length-append, length
 use lib.Seq.{length-take-le, drop-cons, get_or-set_other, get_or-set_same}
 use lib.Dec.{eqb, leb}
 use borrow.Author.Tests.{eqb-true, eqb-false, leb-true, leb-false}
-use Rattle.model.specs.Cube.{Header, Code, none, v0, v1, free, Cube, admits, holds, meet, coded, solid, sameCode, same}
-use Rattle.model.specs.Difference.{less, anyHolds, inDifference}
-use Rattle.model.specs.Tidy.{among, tidyFrom, tidy}
-use Rattle.model.specs.Fields.{bitCode, sameBits, prefixCube, apart, unequal, equalFields}
+use Rattle.model.specs.Cube.{Header, Code, none, v0, v1, free, Cube, admits, holds, meet, coded, solid, same_code, same}
+use Rattle.model.specs.Difference.{less, any_holds, in_difference}
+use Rattle.model.specs.Tidy.{among, tidy_from, tidy}
+use Rattle.model.specs.Fields.{bit_code, same_bits, prefix_cube, apart, unequal, equal_fields}
 use Rattle.model.proofs.Bools.{and_both, and_left, and_right}
 use Rattle.model.specs.Sized.{All, Sized, Good}
 use Rattle.model.proofs.Tidying.{all_append}
@@ -38,7 +38,7 @@ holds-free zero (b ∷ h) e = cc
 holds-free (suc n) [] e = cc
 holds-free (suc n) (b ∷ h) e = holds-free n h (omega arith)
 
-holds-bits : (v h : Header) → holds (map bitCode v) h ≡ sameBits h v
+holds-bits : (v h : Header) → holds (map bit_code v) h ≡ same_bits h v
 holds-bits [] [] = refl
 holds-bits [] (b ∷ h) = refl
 holds-bits (a ∷ v) [] = refl
@@ -48,23 +48,23 @@ holds-bits (false ∷ v) (true ∷ h) = refl
 holds-bits (false ∷ v) (false ∷ h) = holds-bits v h
 
 pub in-prefix : (w s m : ℕ) (v h : Header) → length h ≡ w → s + m ≤ w → m ≤ length v
-    → holds (prefixCube w s m v) h ≡ sameBits (take m (drop s h)) (take m v)
-unfolding prefixCube
+    → holds (prefix_cube w s m v) h ≡ same_bits (take m (drop s h)) (take m v)
+unfolding prefix_cube
 in-prefix w s m v h e f g =
     let rest = w - (s + m) in
     rw (
-      holds-append (replicate s free) (map bitCode (take m v) ++ replicate rest free) h,
+      holds-append (replicate s free) (map bit_code (take m v) ++ replicate rest free) h,
       length-replicate s free,
       holds-free s (take s h) (length-take-le s h (omega arith)),
-      holds-append (map bitCode (take m v)) (replicate rest free) (drop s h),
-      length-map (take m v) bitCode,
+      holds-append (map bit_code (take m v)) (replicate rest free) (drop s h),
+      length-map (take m v) bit_code,
       length-take-le m v g,
       holds-free rest (drop m (drop s h)) (simp length-drop (omega arith)),
       holds-bits (take m v) (take m (drop s h)),
-    ) (and-true (sameBits (take m (drop s h)) (take m v)))
+    ) (and-true (same_bits (take m (drop s h)) (take m v)))
 
-pub prefix-length : (w s m : ℕ) (v : Header) → s + m ≤ w → m ≤ length v → length (prefixCube w s m v) ≡ w
-unfolding prefixCube
+pub prefix-length : (w s m : ℕ) (v : Header) → s + m ≤ w → m ≤ length v → length (prefix_cube w s m v) ≡ w
+unfolding prefix_cube
 prefix-length w s m v f g = simp (length-append, length-replicate, length-map, length-take) (omega arith)
 
 solid-append : (a b : Cube) → solid a ≡ true → solid b ≡ true → solid (a ++ b) ≡ true
@@ -76,15 +76,15 @@ solid-free : (n : ℕ) → solid (replicate n free) ≡ true
 solid-free zero = refl
 solid-free (suc n) = solid-free n
 
-solid-bits : (v : Header) → solid (map bitCode v) ≡ true
+solid-bits : (v : Header) → solid (map bit_code v) ≡ true
 solid-bits [] = refl
 solid-bits (true ∷ v) = solid-bits v
 solid-bits (false ∷ v) = solid-bits v
 
-pub prefix-solid : (w s m : ℕ) (v : Header) → solid (prefixCube w s m v) ≡ true
-unfolding prefixCube
+pub prefix-solid : (w s m : ℕ) (v : Header) → solid (prefix_cube w s m v) ≡ true
+unfolding prefix_cube
 prefix-solid w s m v =
-    let bits = map bitCode (take m v) in
+    let bits = map bit_code (take m v) in
     let rest = replicate (w - (s + m)) free in
     solid-append (replicate s free) (bits ++ rest) (solid-free s) (solid-append bits rest (solid-bits (take m v)) (solid-free (w - (s + m))))
 
@@ -119,7 +119,7 @@ differ false true s = refl
 differ false false s = refl
 
 in-unequal : (w p q n : ℕ) (h : Header) → length h ≡ w → p + n ≤ w → q + n ≤ w → p ≢ q
-    → not (anyHolds (unequal w p q n) h) ≡ sameBits (take n (drop p h)) (take n (drop q h))
+    → not (any_holds (unequal w p q n) h) ≡ same_bits (take n (drop p h)) (take n (drop q h))
 unfolding unequal
 in-unequal w p q zero h e f g d = refl
 in-unequal w p q (suc n) h e f g d =
@@ -128,23 +128,23 @@ in-unequal w p q (suc n) h e f g d =
       drop-cons h q false (omega arith),
       holds-apart w p q v0 v1 h e (omega arith) (omega arith) d,
       holds-apart w p q v1 v0 h e (omega arith) (omega arith) d,
-      differ (get_or h p false) (get_or h q false) (anyHolds (unequal w (p + 1) (q + 1) n) h),
+      differ (get_or h p false) (get_or h q false) (any_holds (unequal w (p + 1) (q + 1) n) h),
       in-unequal w (p + 1) (q + 1) n h e (omega arith) (omega arith) (omega arith),
       add-one p,
       add-one q,
     )
 
-bits-self : (u : Header) → sameBits u u ≡ true
+bits-self : (u : Header) → same_bits u u ≡ true
 bits-self [] = refl
 bits-self (true ∷ u) = bits-self u
 bits-self (false ∷ u) = bits-self u
 
 pub in-equal : (w p q n : ℕ) (h : Header) → length h ≡ w → p + n ≤ w → q + n ≤ w
-    → inDifference (equalFields w p q n) h ≡ sameBits (take n (drop p h)) (take n (drop q h))
-unfolding equalFields
+    → in_difference (equal_fields w p q n) h ≡ same_bits (take n (drop p h)) (take n (drop q h))
+unfolding equal_fields
 in-equal w p q n h e f g = go (eqb p q) refl
   where
-    go : (t : Bool) → eqb p q ≡ t → inDifference (equalFields w p q n) h ≡ sameBits (take n (drop p h)) (take n (drop q h))
+    go : (t : Bool) → eqb p q ≡ t → in_difference (equal_fields w p q n) h ≡ same_bits (take n (drop p h)) (take n (drop q h))
     go true i = rw (i, holds-free w h e, eqb-true p q i) (sym (bits-self (take n (drop q h))))
     go false i = rw (i, holds-free w h e) (in-unequal w p q n h e f g (eqb-false p q i))
 
@@ -173,11 +173,11 @@ unfolding unequal
 sized-unequal w p q zero = tt
 sized-unequal w p q (suc n) = (sized-apart w p q v0 v1 refl refl, (sized-apart w p q v1 v0 refl refl, sized-unequal w (p + 1) (q + 1) n))
 
-pub good-equal : (w p q n : ℕ) → Good w (equalFields w p q n)
-unfolding equalFields
+pub good-equal : (w p q n : ℕ) → Good w (equal_fields w p q n)
+unfolding equal_fields
 good-equal w p q n = go (eqb p q) refl
   where
-    go : (t : Bool) → eqb p q ≡ t → Good w (equalFields w p q n)
+    go : (t : Bool) → eqb p q ≡ t → Good w (equal_fields w p q n)
     go true e = record { base = sized-free w; cuts = rw e tt }
     go false e = record { base = sized-free w; cuts = rw e (sized-unequal w p q n) }
 
@@ -196,20 +196,20 @@ meet-free (suc w) (y ∷ c) e = ap (λ (d : Cube). y ∷ d) (meet-free w c (omeg
 abbrev Unlike : Cube → Cube → Type 0
 Unlike c k = same c k ≡ false
 
-unlike : (c k : Cube) (i : ℕ) → sameCode (get_or c i free) (get_or k i free) ≡ false → Unlike c k
+unlike : (c k : Cube) (i : ℕ) → same_code (get_or c i free) (get_or k i free) ≡ false → Unlike c k
 unlike [] [] i e = e
 unlike [] (y ∷ k) i e = refl
 unlike (x ∷ c) [] i e = refl
 unlike (x ∷ c) (y ∷ k) zero e = rw e
-unlike (x ∷ c) (y ∷ k) (suc i) e = rw (unlike c k i e) (and-false (sameCode x y))
+unlike (x ∷ c) (y ∷ k) (suc i) e = rw (unlike c k i e) (and-false (same_code x y))
 
 among_none : (c : Cube) (ks : List Cube) → All (Unlike c) ks → among c ks ≡ false
 among_none c [] a = refl
 among_none c (k ∷ ks) a = rw (a.0, among_none c ks a.1)
 
 tidy-take : (w : ℕ) (ks : List Cube) (c : Cube) (cs : List Cube) → Sized w c → All (Unlike c) (replicate w free ∷ ks)
-    → tidyFrom (replicate w free) ks (c ∷ cs) ≡ tidyFrom (replicate w free) (ks ++ (c ∷ [])) cs
-unfolding tidyFrom
+    → tidy_from (replicate w free) ks (c ∷ cs) ≡ tidy_from (replicate w free) (ks ++ (c ∷ [])) cs
+unfolding tidy_from
 tidy-take w ks c cs s a = rw (meet-free w c s.wide, s.filled, a.0, among_none c ks a.1)
 
 -- free from the later one of two positions on
@@ -233,7 +233,7 @@ first_code w p q x y f d =
 second-code : (w p q : ℕ) (x y : Code) → q < w → get_or (apart w p q x y) q free ≡ y
 second-code w p q x y f = get_or-set_same (set (replicate w free) p x) q y free (rw (length-set (replicate w free) p x, length-replicate w free) f)
 
-unlike-clear : (w p q : ℕ) (x y : Code) → p < w → q < w → p ≢ q → sameCode x free ≡ false → sameCode y free ≡ false → (k : Cube) → Clear p q k
+unlike-clear : (w p q : ℕ) (x y : Code) → p < w → q < w → p ≢ q → same_code x free ≡ false → same_code y free ≡ false → (k : Cube) → Clear p q k
     → Unlike (apart w p q x y) k
 unlike-clear w p q x y f g d s t k c = go (leb p q) refl
   where
@@ -252,7 +252,7 @@ clear-pair w p q ks a =
     all_append later ks (pair w p q) old (clear_apart w p q v0 v1, (clear_apart w p q v1 v0, tt))
 
 tidy-pair : (w p q : ℕ) (ks cs : List Cube) → p < w → q < w → p ≢ q → All (Clear p q) ks
-    → tidyFrom (replicate w free) ks (pair w p q ++ cs) ≡ tidyFrom (replicate w free) (ks ++ pair w p q) cs
+    → tidy_from (replicate w free) ks (pair w p q ++ cs) ≡ tidy_from (replicate w free) (ks ++ pair w p q) cs
 tidy-pair w p q ks cs f g d a =
     tidy-take w ks (apart w p q v0 v1) (apart w p q v1 v0 ∷ cs) (sized-apart w p q v0 v1 refl refl) (others v0 v1 refl refl)
     ∙ tidy-take w (ks ++ (apart w p q v0 v1 ∷ [])) (apart w p q v1 v0) cs (sized-apart w p q v1 v0 refl refl) again
@@ -261,7 +261,7 @@ tidy-pair w p q ks cs f g d a =
     swapped : Unlike (apart w p q v1 v0) (apart w p q v0 v1)
     swapped = unlike (apart w p q v1 v0) (apart w p q v0 v1) p (rw (first_code w p q v1 v0 f d, first_code w p q v0 v1 f d))
 
-    others : (x y : Code) → sameCode x free ≡ false → sameCode y free ≡ false → All (Unlike (apart w p q x y)) (replicate w free ∷ ks)
+    others : (x y : Code) → same_code x free ≡ false → same_code y free ≡ false → All (Unlike (apart w p q x y)) (replicate w free ∷ ks)
     others x y s t =
         all_map (Clear p q) (Unlike (apart w p q x y)) (unlike-clear w p q x y f g d s t) (replicate w free ∷ ks) ((λ i j l. free-at w i), a)
 
@@ -269,18 +269,18 @@ tidy-pair w p q ks cs f g d a =
     again = all_append (Unlike (apart w p q v1 v0)) (replicate w free ∷ ks) (apart w p q v0 v1 ∷ []) (others v1 v0 refl refl) (swapped, tt)
 
 tidy-unequal : (w p q n : ℕ) (ks : List Cube) → p + n ≤ w → q + n ≤ w → p ≢ q → All (Clear p q) ks
-    → tidyFrom (replicate w free) ks (unequal w p q n) ≡ less (replicate w free) (ks ++ unequal w p q n) ∷ []
-unfolding tidyFrom unequal
+    → tidy_from (replicate w free) ks (unequal w p q n) ≡ less (replicate w free) (ks ++ unequal w p q n) ∷ []
+unfolding tidy_from unequal
 tidy-unequal w p q zero ks f g d a = rw (append-nil ks)
 tidy-unequal w p q (suc n) ks f g d a =
     tidy-pair w p q ks (unequal w (p + 1) (q + 1) n) (omega arith) (omega arith) d a
     ∙ tidy-unequal w (p + 1) (q + 1) n (ks ++ pair w p q) (omega arith) (omega arith) (omega arith) (clear-pair w p q ks a)
     ∙ rw (append_assoc ks (pair w p q) (unequal w (p + 1) (q + 1) n))
 
-pub equal-tidy : (w p q n : ℕ) → p + n ≤ w → q + n ≤ w → tidy (equalFields w p q n) ≡ equalFields w p q n ∷ []
-unfolding tidyFrom equalFields
+pub equal-tidy : (w p q n : ℕ) → p + n ≤ w → q + n ≤ w → tidy (equal_fields w p q n) ≡ equal_fields w p q n ∷ []
+unfolding tidy_from equal_fields
 equal-tidy w p q n f g = go (eqb p q) refl
   where
-    go : (t : Bool) → eqb p q ≡ t → tidy (equalFields w p q n) ≡ equalFields w p q n ∷ []
+    go : (t : Bool) → eqb p q ≡ t → tidy (equal_fields w p q n) ≡ equal_fields w p q n ∷ []
     go true e = rw e
     go false e = rw e (tidy-unequal w p q n [] f g (eqb-false p q e) tt)

@@ -12,13 +12,13 @@ use mathlib.Core.Path.{◌≡◌, refl, sym, ap, ap₂, ◌∙◌}
 use mathlib.Core.List.{List, [], ◌∷◌, ◌++◌, map, map-append}
 use mathlib.Core.Bool.{Bool, true, false, ◌&&◌, ◌||◌, cond}
 use lib.ListN.{length, replicate}
-use Rattle.model.specs.Cube.{Header, Code, free, Cube, admits, holds, meetCode, meet, coded, solid, shares, sameCode, same, within}
+use Rattle.model.specs.Cube.{Header, Code, free, Cube, admits, holds, meet_code, meet, coded, solid, shares, same_code, same, within}
 use Rattle.model.specs.Difference.{Region}
 use Rattle.model.specs.Sized.{All, Sized}
-use Rattle.model.specs.Tidy.{among, tidyFrom}
+use Rattle.model.specs.Tidy.{among, tidy_from}
 use Rattle.model.specs.Walk.{opens, other, children, Found, next, in_turn, visited, visit}
-use Rattle.model.specs.Ceiling.{frees, ceilingFrom}
-use Rattle.model.specs.Padding.{pad, padFound, padDifference}
+use Rattle.model.specs.Ceiling.{frees, ceiling_from}
+use Rattle.model.specs.Padding.{pad, pad_found, pad_difference}
 use Rattle.model.proofs.Tidying.{all_append}
 use Rattle.model.proofs.Turns.{visit-none, visit-met, visit-passed, visit-by, next-by}
 use Rattle.model.proofs.Parts.{children-length}
@@ -43,7 +43,7 @@ pub meet-pad : (u : ℕ) (a b : Cube) → length a ≡ length b → meet (pad u 
 meet-pad u [] [] e = free-meet u
 meet-pad u [] (y ∷ b) e = uneven (length b) e
 meet-pad u (x ∷ a) [] e = uneven (length a) (sym e)
-meet-pad u (x ∷ a) (y ∷ b) e = ap (λ (c : Cube). meetCode x y ∷ c) (meet-pad u a b (omega arith))
+meet-pad u (x ∷ a) (y ∷ b) e = ap (λ (c : Cube). meet_code x y ∷ c) (meet-pad u a b (omega arith))
 
 pub solid-pad : (u : ℕ) (c : Cube) → solid (pad u c) ≡ solid c
 solid-pad zero [] = refl
@@ -58,7 +58,7 @@ same-pad zero [] [] e = refl
 same-pad (suc u) [] [] e = same-pad u [] [] e
 same-pad u [] (y ∷ b) e = uneven (length b) e
 same-pad u (x ∷ a) [] e = uneven (length a) (sym e)
-same-pad u (x ∷ a) (y ∷ b) e = ap (λ (t : Bool). sameCode x y && t) (same-pad u a b (omega arith))
+same-pad u (x ∷ a) (y ∷ b) e = ap (λ (t : Bool). same_code x y && t) (same-pad u a b (omega arith))
 
 pub within-pad : (u : ℕ) (a b : Cube) → length a ≡ length b → within (pad u a) (pad u b) ≡ within a b
 within-pad u a b e = ap (λ (c : Cube). same c (pad u a)) (meet-pad u a b e) ∙ same-pad u (meet a b) a (length_meet a b e)
@@ -93,17 +93,17 @@ children-pad u (x ∷ p) (y ∷ c) e = go (opens x y) (children-pad u p c (omega
     go true ih = ap (λ (l : List Cube). (other y ∷ pad u p) ∷ l) (ap (map (λ q. y ∷ q)) ih ∙ map-cons u y (children p c))
     go false ih = ap (map (λ q. x ∷ q)) ih ∙ map-cons u x (children p c)
 
-pub next-pad : (u : ℕ) (a b : Found) → next (padFound u a) (padFound u b) ≡ padFound u (next a b)
-next-pad u a b = next-by (λ v. next (padFound u a) (padFound u b) ≡ padFound u v) a b (λ e. rw e) (λ q e. rw e)
+pub next-pad : (u : ℕ) (a b : Found) → next (pad_found u a) (pad_found u b) ≡ pad_found u (next a b)
+next-pad u a b = next-by (λ v. next (pad_found u a) (pad_found u b) ≡ pad_found u v) a b (λ e. rw e) (λ q e. rw e)
 
-module _ {A : Type 0} (u : ℕ) (P : A → Type 0) (h : A → A) (f g : A → Found) (e : (x : A) → P x → g (h x) ≡ padFound u (f x)) where
-  pub in-turn-pad : (xs : List A) → All P xs → in_turn g (map h xs) ≡ padFound u (in_turn f xs)
+module _ {A : Type 0} (u : ℕ) (P : A → Type 0) (h : A → A) (f g : A → Found) (e : (x : A) → P x → g (h x) ≡ pad_found u (f x)) where
+  pub in-turn-pad : (xs : List A) → All P xs → in_turn g (map h xs) ≡ pad_found u (in_turn f xs)
   in-turn-pad [] l = refl
   in-turn-pad (x ∷ xs) l = ap₂ next (e x l.0) (in-turn-pad xs l.1) ∙ next-pad u (f x) (in_turn f xs)
 
-pub visit-pad : (u w : ℕ) (cs : List Cube) (p : Cube) → Lengths w cs → length p ≡ w → visit (map (pad u) cs) (pad u p) ≡ padFound u (visit cs p)
+pub visit-pad : (u w : ℕ) (cs : List Cube) (p : Cube) → Lengths w cs → length p ≡ w → visit (map (pad u) cs) (pad u p) ≡ pad_found u (visit cs p)
 visit-pad u w =
-    visit-by (λ cs p v. Lengths w cs → length p ≡ w → visit (map (pad u) cs) (pad u p) ≡ padFound u v)
+    visit-by (λ cs p v. Lengths w cs → length p ≡ w → visit (map (pad u) cs) (pad u p) ≡ pad_found u v)
     (λ p l e. visit-none (pad u p))
     (λ c cs p m ih l e.
     let k = e ∙ sym l.0 in
@@ -126,8 +126,8 @@ frees-pad u [] (y ∷ c) e = uneven (length c) e
 frees-pad u (x ∷ b) [] e = uneven (length b) (sym e)
 frees-pad u (x ∷ b) (y ∷ c) e = ap (λ (n : ℕ). cond (opens x y) 1 0 + n) (frees-pad u b c (omega arith))
 
-pub from-pad : (u w : ℕ) (b : Cube) (cs : List Cube) → length b ≡ w → Lengths w cs → ceilingFrom (pad u b) (map (pad u) cs) ≡ ceilingFrom b cs
-unfolding ceilingFrom
+pub from-pad : (u w : ℕ) (b : Cube) (cs : List Cube) → length b ≡ w → Lengths w cs → ceiling_from (pad u b) (map (pad u) cs) ≡ ceiling_from b cs
+unfolding ceiling_from
 from-pad u w b [] e l = refl
 from-pad u w b (c ∷ cs) e l = rw (shares-pad u b c (e ∙ sym l.0), frees-pad u b c (e ∙ sym l.0), from-pad u w b cs e l.1)
 
@@ -137,8 +137,8 @@ among-pad u w c [] e l = refl
 among-pad u w c (k ∷ ks) e l = ap₂ (λ (a b : Bool). a || b) (same-pad u c k (e ∙ sym l.0)) (among-pad u w c ks e l.1)
 
 pub tidy-pad : (u w : ℕ) (base : Cube) (kept cuts : List Cube) → length base ≡ w → Lengths w kept → Lengths w cuts
-    → tidyFrom (pad u base) (map (pad u) kept) (map (pad u) cuts) ≡ map (padDifference u) (tidyFrom base kept cuts)
-unfolding tidyFrom
+    → tidy_from (pad u base) (map (pad u) kept) (map (pad u) cuts) ≡ map (pad_difference u) (tidy_from base kept cuts)
+unfolding tidy_from
 tidy-pad u w base kept [] e k l = refl
 tidy-pad u w base kept (c ∷ cuts) e k l =
     let ec = e ∙ sym l.0 in
@@ -156,13 +156,13 @@ tidy-pad u w base kept (c ∷ cuts) e k l =
     (go (shares base c) (same (meet base c) base) (among (meet base c) kept))
   where
     P : Region → Region
-    P r = map (padDifference u) r
+    P r = map (pad_difference u) r
 
     D : Region
-    D = tidyFrom base kept cuts
+    D = tidy_from base kept cuts
 
     M : Region
-    M = tidyFrom base (kept ++ (meet base c ∷ [])) cuts
+    M = tidy_from base (kept ++ (meet base c ∷ [])) cuts
 
     go : (s b a : Bool) → cond s (cond b [] (cond a (P D) (P M))) (P D) ≡ P (cond s (cond b [] (cond a D M)) D)
     go true true a = refl

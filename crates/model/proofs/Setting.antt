@@ -11,7 +11,7 @@ use mathlib.Core.Path.{◌≡◌, refl, sym, ◌∙◌}
 use mathlib.Core.List.{List, [], ◌∷◌}
 use mathlib.Core.Bool.{Bool, true, false, not, ◌&&◌, ◌||◌, and_comm, and-false}
 use Rattle.model.specs.Cube.{Header, Cube, holds, shares}
-use Rattle.model.specs.Difference.{Difference, Region, anyHolds, inDifference, inRegion}
+use Rattle.model.specs.Difference.{Difference, Region, any_holds, in_difference, in_region}
 use Rattle.model.specs.Tidy.{each}
 use Rattle.model.specs.Algebra.{intersection, intersections, restored, subtraction, subtractions}
 use Rattle.model.proofs.Cubes.{in_meet, apart_none}
@@ -27,24 +27,24 @@ both-bases true false true false = refl
 both-bases true false false q = refl
 both-bases false p b q = refl
 
-pub in-intersection : (a b : Difference) (h : Header) → inRegion (intersection a b) h ≡ inDifference a h && inDifference b h
+pub in-intersection : (a b : Difference) (h : Header) → in_region (intersection a b) h ≡ in_difference a h && in_difference b h
 unfolding intersection
 in-intersection a b h = go (shares a.base b.base) refl
   where
-    bits : ((holds a.base h && holds b.base h) && not (anyHolds a.cuts h || anyHolds b.cuts h)) || false ≡ inDifference a h && inDifference b h
-    bits = both-bases (holds a.base h) (anyHolds a.cuts h) (holds b.base h) (anyHolds b.cuts h)
+    bits : ((holds a.base h && holds b.base h) && not (any_holds a.cuts h || any_holds b.cuts h)) || false ≡ in_difference a h && in_difference b h
+    bits = both-bases (holds a.base h) (any_holds a.cuts h) (holds b.base h) (any_holds b.cuts h)
 
-    go : (t : Bool) → shares a.base b.base ≡ t → inRegion (intersection a b) h ≡ inDifference a h && inDifference b h
+    go : (t : Bool) → shares a.base b.base ≡ t → in_region (intersection a b) h ≡ in_difference a h && in_difference b h
     go true e = rw (e, in_meet a.base b.base h, any_append a.cuts b.cuts h) bits
     go false e = rw e (rw (apart_none a.base b.base h e) at bits)
 
-pub in-intersections : (r s : Region) (h : Header) → inRegion (intersections r s) h ≡ inRegion r h && inRegion s h
-in-intersections r s h = in-each (λ a. each (intersection a) s) h (inRegion s h) inner r
+pub in-intersections : (r s : Region) (h : Header) → in_region (intersections r s) h ≡ in_region r h && in_region s h
+in-intersections r s h = in-each (λ a. each (intersection a) s) h (in_region s h) inner r
   where
-    inner : (a : Difference) → inRegion (each (intersection a) s) h ≡ inDifference a h && inRegion s h
+    inner : (a : Difference) → in_region (each (intersection a) s) h ≡ in_difference a h && in_region s h
     inner a =
-        in-each (intersection a) h (inDifference a h) (λ b. in-intersection a b h ∙ and_comm (inDifference a h) (inDifference b h)) s
-        ∙ and_comm (inRegion s h) (inDifference a h)
+        in-each (intersection a) h (in_difference a h) (λ b. in-intersection a b h ∙ and_comm (in_difference a h) (in_difference b h)) s
+        ∙ and_comm (in_region s h) (in_difference a h)
 
 -- a header in the base a, in its cuts p, in the cut c that is given back, in the later ones s
 give-back : (a p c s : Bool) → ((a && c) && not p) || ((a && not p) && s) ≡ (a && not p) && (c || s)
@@ -54,17 +54,17 @@ give-back true false true s = refl
 give-back true false false s = refl
 give-back false p c s = refl
 
-pub restored-back : (a : Difference) (cs : List Cube) (h : Header) → inRegion (restored a cs) h ≡ inDifference a h && anyHolds cs h
+pub restored-back : (a : Difference) (cs : List Cube) (h : Header) → in_region (restored a cs) h ≡ in_difference a h && any_holds cs h
 unfolding restored
-restored-back a [] h = sym (and-false (inDifference a h))
+restored-back a [] h = sym (and-false (in_difference a h))
 restored-back a (c ∷ cs) h = go (restored-back a cs h) (shares a.base c) refl
   where
-    bits : ((holds a.base h && holds c h) && not (anyHolds a.cuts h)) || (inDifference a h && anyHolds cs h)
-        ≡ inDifference a h && (holds c h || anyHolds cs h)
-    bits = give-back (holds a.base h) (anyHolds a.cuts h) (holds c h) (anyHolds cs h)
+    bits : ((holds a.base h && holds c h) && not (any_holds a.cuts h)) || (in_difference a h && any_holds cs h)
+        ≡ in_difference a h && (holds c h || any_holds cs h)
+    bits = give-back (holds a.base h) (any_holds a.cuts h) (holds c h) (any_holds cs h)
 
-    go : inRegion (restored a cs) h ≡ inDifference a h && anyHolds cs h → (t : Bool) → shares a.base c ≡ t
-        → inRegion (restored a (c ∷ cs)) h ≡ inDifference a h && (holds c h || anyHolds cs h)
+    go : in_region (restored a cs) h ≡ in_difference a h && any_holds cs h → (t : Bool) → shares a.base c ≡ t
+        → in_region (restored a (c ∷ cs)) h ≡ in_difference a h && (holds c h || any_holds cs h)
     go ih true e = rw (e, in_meet a.base c h, ih) bits
     go ih false e = rw (e, ih) (rw (apart_none a.base c h e) at bits)
 
@@ -77,15 +77,15 @@ cut-back true false false true = refl
 cut-back true false false false = refl
 cut-back false p b q = refl
 
-pub in-subtraction : (a b : Difference) (h : Header) → inRegion (subtraction a b) h ≡ inDifference a h && not (inDifference b h)
+pub in-subtraction : (a b : Difference) (h : Header) → in_region (subtraction a b) h ≡ in_difference a h && not (in_difference b h)
 in-subtraction a b h = rw (any_append a.cuts (b.base ∷ []) h, restored-back a b.cuts h) bits
   where
-    bits : (holds a.base h && not (anyHolds a.cuts h || (holds b.base h || false))) || (inDifference a h && anyHolds b.cuts h)
-        ≡ inDifference a h && not (inDifference b h)
-    bits = cut-back (holds a.base h) (anyHolds a.cuts h) (holds b.base h) (anyHolds b.cuts h)
+    bits : (holds a.base h && not (any_holds a.cuts h || (holds b.base h || false))) || (in_difference a h && any_holds b.cuts h)
+        ≡ in_difference a h && not (in_difference b h)
+    bits = cut-back (holds a.base h) (any_holds a.cuts h) (holds b.base h) (any_holds b.cuts h)
 
-pub in-subtractions : (r : Region) (b : Difference) (h : Header) → inRegion (subtractions r b) h ≡ inRegion r h && not (inDifference b h)
-in-subtractions r b h = in-each (λ a. subtraction a b) h (not (inDifference b h)) (λ a. in-subtraction a b h) r
+pub in-subtractions : (r : Region) (b : Difference) (h : Header) → in_region (subtractions r b) h ≡ in_region r h && not (in_difference b h)
+in-subtractions r b h = in-each (λ a. subtraction a b) h (not (in_difference b h)) (λ a. in-subtraction a b h) r
 
 -- the cubes
 pub good-intersection : (w : ℕ) (a b : Difference) → Good w a → Good w b → All (Good w) (intersection a b)

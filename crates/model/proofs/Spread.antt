@@ -15,7 +15,7 @@ use Rattle.model.specs.Cube.{Code, none, v0, v1, free, Cube, shares}
 use Rattle.model.specs.Difference.{Difference}
 use Rattle.model.specs.Sized.{All}
 use Rattle.model.specs.Walk.{opens, children, Found, in_turn, visit, walk}
-use Rattle.model.specs.Ceiling.{meeting, mark, matters, marks, ceilingOver}
+use Rattle.model.specs.Ceiling.{meeting, mark, matters, marks, ceiling_over}
 use Rattle.model.proofs.Ceilings.{matters-long}
 use Rattle.model.proofs.Turns.{visit-by, next-at-most}
 use Rattle.model.proofs.Parts.{Part, done, keep, fix, part-self, part-trans, wider-shares, each_of, children-part}
@@ -175,7 +175,7 @@ module _ (b : Cube) (ms : List Bool) where
       passed true k p h = omega (arith, h, suc-mul k (spread ms p))
       passed false k p h = h
 
-pub pieces-at-most-over : (d : Difference) → (walk d).pieces ≤ ceilingOver d.base d.cuts
+pub pieces-at-most-over : (d : Difference) → (walk d).pieces ≤ ceiling_over d.base d.cuts
 pieces-at-most-over d =
     let b = d.base in
     let ms = matters b d.cuts in

@@ -16,7 +16,7 @@ use lib.ListN.{length, get_or, take}
 use borrow.Author.Tests.{leb-true, leb-false}
 use Rattle.model.specs.Cube.{Cube}
 use Rattle.model.specs.Difference.{Region}
-use Rattle.model.specs.Walk.{Survivor, nothing, piece, Found, next, in_turn, walk, walkRegion, covers, stop}
+use Rattle.model.specs.Walk.{Survivor, nothing, piece, Found, next, in_turn, walk, walk_region, covers, stop}
 use Rattle.model.specs.Index.{pieces_of, Unpaid}
 use Rattle.model.proofs.Turns.{next-on, next-stop, next-by}
 
@@ -122,6 +122,6 @@ stopped-empty n (v ∷ vs) l e = go (stopped-empty (n - v.pieces) vs) (turn n v)
     go later (unpaid c p) = absurd (omega (arith, at_least n v (together vs) p))
 
 -- the walks of a region
-pub region-in-turn : (r : Region) → in_turn (λ v. v) (map walk r) ≡ walkRegion r
+pub region-in-turn : (r : Region) → in_turn (λ v. v) (map walk r) ≡ walk_region r
 region-in-turn [] = refl
 region-in-turn (d ∷ r) = ap (next (walk d)) (region-in-turn r)

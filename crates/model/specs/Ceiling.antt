@@ -1,17 +1,17 @@
 -- The ceiling on the pieces of a walk (FORMAT 117): the smaller of two bounds over the cuts that meet the base, as lent.
 -- The first goes cut by cut, 1 + f1 (1 + f2 (.. (1 + fk * 1))), in their order; the second is 1 + k * 2^s.
 --   frees b c        == how many positions the cut c fixes and the base b leaves free
---   ceilingFrom b cs == the first bound, of the base b with the cuts cs
+--   ceiling_from b cs == the first bound, of the base b with the cuts cs
 --   meeting b cs     == k: how many of the cuts cs meet the base b
 --   mark b c ms      == the marks ms, one for each position, and one more where the cut c fixes what the base b leaves free
 --   unmarked b       == no mark, for each position of b
 --   matters b cs     == the positions that b leaves free and at least one cut of cs that meets b fixes, marked
 --   marks ms         == how many marks ms has
 --   mattering b cs   == s: how many positions b leaves free and at least one meeting cut fixes
---   ceilingOver b cs == the second bound
+--   ceiling_over b cs == the second bound
 --   ceiling d        == the ceiling of a difference, uncapped
---   mostPieces       == 4,294,967,295
---   capped n         == n, or mostPieces where n is at or above it
+--   most_pieces       == 4,294,967,295
+--   capped n         == n, or most_pieces where n is at or above it
 use Rattle.std.specs.Prelude.{ℕ, suc, ◌+◌, ◌*◌, ◌^◌, min, List, [], ◌∷◌, map, Bool, false, ◌||◌, cond, leb}
 use Rattle.model.specs.Cube.{Cube, shares}
 use Rattle.model.specs.Difference.{Difference}
@@ -24,10 +24,10 @@ frees (x ∷ b) [] = 0
 frees (x ∷ b) (y ∷ c) = cond (opens x y) 1 0 + frees b c
 
 -- FORMAT 117: the first bound
-unfoldable pub ceilingFrom : Cube → List Cube → ℕ
-ceilingFrom b [] = 1
-ceilingFrom b (c ∷ cs) =
-    let inner = ceilingFrom b cs in
+unfoldable pub ceiling_from : Cube → List Cube → ℕ
+ceiling_from b [] = 1
+ceiling_from b (c ∷ cs) =
+    let inner = ceiling_from b cs in
     cond (shares b c) (1 + frees b c * inner) inner
 
 -- FORMAT 117: k
@@ -61,17 +61,17 @@ abbrev pub mattering : Cube → List Cube → ℕ
 mattering b cs = marks (matters b cs)
 
 -- FORMAT 117: the second bound
-abbrev pub ceilingOver : Cube → List Cube → ℕ
-ceilingOver b cs = 1 + meeting b cs * 2 ^ mattering b cs
+abbrev pub ceiling_over : Cube → List Cube → ℕ
+ceiling_over b cs = 1 + meeting b cs * 2 ^ mattering b cs
 
 -- FORMAT 117
 abbrev pub ceiling : Difference → ℕ
-ceiling d = min (ceilingFrom d.base d.cuts) (ceilingOver d.base d.cuts)
+ceiling d = min (ceiling_from d.base d.cuts) (ceiling_over d.base d.cuts)
 
 -- FORMAT 118
-abbrev pub mostPieces : ℕ
-mostPieces = 4294967295
+abbrev pub most_pieces : ℕ
+most_pieces = 4294967295
 
 -- FORMAT 118
 abbrev pub capped : ℕ → ℕ
-capped n = cond (leb mostPieces n) mostPieces n
+capped n = cond (leb most_pieces n) most_pieces n

@@ -2,12 +2,12 @@
 --   Difference         == a base and its cuts
 --   less b cs          == the difference of the base b and the cuts cs
 --   Region             == differences, in their order
---   anyHolds cs h      == the header h is in at least one of the cubes cs
---   inDifference d h   == h is in the base and in no cut
---   inRegion r h       == h is in at least one difference of r
+--   any_holds cs h      == the header h is in at least one of the cubes cs
+--   in_difference d h   == h is in the base and in no cut
+--   in_region r h       == h is in at least one difference of r
 --   Holder             == which of some differences is the first that holds a header: none, or its index, counted from 0
 --   further x          == the holder x, with one difference more before all
---   firstHolder r h    == the first difference of r that h is in
+--   first_holder r h    == the first difference of r that h is in
 --   is_held x           == there is one
 use Rattle.std.specs.Prelude.{ℕ, suc, List, [], ◌∷◌, Bool, true, false, cond, not, ◌&&◌, ◌||◌}
 use Rattle.model.specs.Cube.{Header, Cube, holds}
@@ -24,18 +24,18 @@ less b cs = record { base = b; cuts = cs }
 abbrev pub Region : Type 0
 Region = List Difference
 
-abbrev pub anyHolds : List Cube → Header → Bool
-anyHolds [] h = false
-anyHolds (c ∷ cs) h = holds c h || anyHolds cs h
+abbrev pub any_holds : List Cube → Header → Bool
+any_holds [] h = false
+any_holds (c ∷ cs) h = holds c h || any_holds cs h
 
 -- FORMAT 2, 7
-abbrev pub inDifference : Difference → Header → Bool
-inDifference d h = holds d.base h && not (anyHolds d.cuts h)
+abbrev pub in_difference : Difference → Header → Bool
+in_difference d h = holds d.base h && not (any_holds d.cuts h)
 
 -- FORMAT 2, 9
-abbrev pub inRegion : Region → Header → Bool
-inRegion [] h = false
-inRegion (d ∷ r) h = inDifference d h || inRegion r h
+abbrev pub in_region : Region → Header → Bool
+in_region [] h = false
+in_region (d ∷ r) h = in_difference d h || in_region r h
 
 pub data Holder : Type 0 where
   unheld : Holder
@@ -45,9 +45,9 @@ abbrev pub further : Holder → Holder
 further unheld = unheld
 further (held i) = held (suc i)
 
-abbrev pub firstHolder : Region → Header → Holder
-firstHolder [] h = unheld
-firstHolder (d ∷ r) h = cond (inDifference d h) (held 0) (further (firstHolder r h))
+abbrev pub first_holder : Region → Header → Holder
+first_holder [] h = unheld
+first_holder (d ∷ r) h = cond (in_difference d h) (held 0) (further (first_holder r h))
 
 abbrev pub is_held : Holder → Bool
 is_held unheld = false

@@ -10,12 +10,12 @@
 --   visited v       == the walk v with one piece more before it
 --   visit cs p      == to visit the piece p with the cuts cs left
 --   walk d          == the walk of a difference
---   walkRegion r    == the walk of a region, difference by difference
---   walkInclusion   == the walk of "a in b": that of the untidied pieces of a less b
---   givenBack a c   == what the cut c of a subtracted difference gives back of a
---   walkBack a c    == the walk of that: of no piece where they share no header, so that it is skipped
---   piecesLess a b  == the pieces of a less b by their numbers, with the skipped ones: the first, and what each cut of b gives back
---   walksLess a b   == their walks
+--   walk_region r    == the walk of a region, difference by difference
+--   walk_inclusion   == the walk of "a in b": that of the untidied pieces of a less b
+--   given_back a c   == what the cut c of a subtracted difference gives back of a
+--   walk_back a c    == the walk of that: of no piece where they share no header, so that it is skipped
+--   pieces_less a b  == the pieces of a less b by their numbers, with the skipped ones: the first, and what each cut of b gives back
+--   walks_less a b   == their walks
 --   covered s       == nothing survived
 --   covers n v      == the allowance n pays for the walk v, and nothing survived
 --   stop n vs       == where the walks vs stop, one after another on the allowance n: how many it covers before the one that decides
@@ -89,28 +89,28 @@ abbrev pub walk : Difference → Found
 walk d = visit d.cuts d.base
 
 -- FORMAT 112
-abbrev pub walkRegion : Region → Found
-walkRegion r = in_turn walk r
+abbrev pub walk_region : Region → Found
+walk_region r = in_turn walk r
 
 -- FORMAT 113
-abbrev pub walkInclusion : Difference → Difference → Found
-walkInclusion a b = walkRegion (subtraction a b)
+abbrev pub walk_inclusion : Difference → Difference → Found
+walk_inclusion a b = walk_region (subtraction a b)
 
 -- FORMAT 76
-abbrev pub givenBack : Difference → Cube → Difference
-givenBack a c = less (meet a.base c) a.cuts
+abbrev pub given_back : Difference → Cube → Difference
+given_back a c = less (meet a.base c) a.cuts
 
-unfoldable pub walkBack : Difference → Cube → Found
-walkBack a c =
-    let back = walk (givenBack a c) in
+unfoldable pub walk_back : Difference → Cube → Found
+walk_back a c =
+    let back = walk (given_back a c) in
     cond (shares a.base c) back (record { pieces = 0; survivor = nothing })
 
 -- FORMAT 113, 153
-abbrev pub piecesLess : Difference → Difference → Region
-piecesLess a b = less a.base (a.cuts ++ (b.base ∷ [])) ∷ map (givenBack a) b.cuts
+abbrev pub pieces_less : Difference → Difference → Region
+pieces_less a b = less a.base (a.cuts ++ (b.base ∷ [])) ∷ map (given_back a) b.cuts
 
-abbrev pub walksLess : Difference → Difference → List Found
-walksLess a b = walk (less a.base (a.cuts ++ (b.base ∷ []))) ∷ map (walkBack a) b.cuts
+abbrev pub walks_less : Difference → Difference → List Found
+walks_less a b = walk (less a.base (a.cuts ++ (b.base ∷ []))) ∷ map (walk_back a) b.cuts
 
 -- which of several walks decides
 abbrev pub covered : Survivor → Bool

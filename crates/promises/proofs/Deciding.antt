@@ -16,16 +16,16 @@ use lib.Dec.{eqb}
 use lib.ListN.{length}
 use borrow.Author.Tests.{eqb-true, eqb-false}
 use Rattle.model.specs.Cube.{Header}
-use Rattle.model.specs.Difference.{Region, inDifference}
-use Rattle.model.specs.Walk.{Found, walk, walkRegion, Decision, undecided, empty, member, count_of, decide}
-use Rattle.model.specs.Index.{differenceOf}
+use Rattle.model.specs.Difference.{Region, in_difference}
+use Rattle.model.specs.Walk.{Found, walk, walk_region, Decision, undecided, empty, member, count_of, decide}
+use Rattle.model.specs.Index.{difference_of}
 use Rattle.model.proofs.Turns.{next-at-most}
 use Rattle.model.proofs.Indexing.{Stops}
 use Rattle.model.proofs.Bound.{pieces-at-most-ceiling}
 use Rattle.model.proofs.Allowed.{decide_by}
-use Rattle.answer.specs.Answer.{noDifference}
+use Rattle.answer.specs.Answer.{no_difference}
 use Rattle.format.specs.Rows.{Rows, outcome}
-use Rattle.format.specs.Bytes.{headerLen, readHeader}
+use Rattle.format.specs.Bytes.{header_len, read_header}
 use Rattle.format.specs.Told.{Told, deciding, walking}
 use Rattle.format.proofs.Asking.{Asks, count-told, asks-yes, asks-yes-when, asks-survivor, asks-shown, asks-no, asks-undecided, asks-undecided-when}
 use Rattle.format.proofs.Asking.{asks-count, asks-told, asks-index, asks_none}
@@ -35,7 +35,7 @@ use Rattle.promises.specs.Decides.{Decides, ceilings}
 use Rattle.promises.proofs.Telling.{by-table}
 use Rattle.promises.proofs.Keeping.{Mute, LastLine, told-by}
 
-pub walking-tells : (w n room i : ℕ) (v : Found) → Tells (headerLen w ≤ room) (deciding w (decide n i v)) (outcome (walking w n room i v))
+pub walking-tells : (w n room i : ℕ) (v : Found) → Tells (header_len w ≤ room) (deciding w (decide n i v)) (outcome (walking w n room i v))
 walking-tells w n room i v = by-table 1 _ (omega arith) (omega arith) (omega arith)
 
 -- what an allowance makes of a walk
@@ -52,21 +52,21 @@ module _ {w n i : ℕ} {In : Header → Bool} {v : Found} {Ok : Type 0} {x : Tol
       record {
         yes = (asks-yes a, λ (o, paid, none). asks-yes-when a o paid (λ h l. none h));
         no = (
-          λ e. let (o, paid, shown) = asks-no a e in (o, paid, (readHeader w x.bytes, shown.inside)),
+          λ e. let (o, paid, shown) = asks-no a e in (o, paid, (read_header w x.bytes, shown.inside)),
           λ (o, paid, (h, inside)). no-when o paid h inside,
         );
         shown = λ e. let (_, _, shown) = asks-no a e in shown;
         undecided = (λ e. let (o, unpaid, _) = asks-undecided a e in (o, unpaid), λ (o, unpaid). asks-undecided-when a o unpaid);
-        yes-count = λ e. let (o, paid, _) = asks-yes a e in asks-count a o paid;
-        no-count = λ e. let (o, paid, _) = asks-no a e in asks-count a o paid;
-        undecided-count = λ e. let (_, _, all) = asks-undecided a e in all;
-        yes-index = asks_none a;
+        yes_count = λ e. let (o, paid, _) = asks-yes a e in asks-count a o paid;
+        no_count = λ e. let (o, paid, _) = asks-no a e in asks-count a o paid;
+        undecided_count = λ e. let (_, _, all) = asks-undecided a e in all;
+        yes_index = asks_none a;
         no_index = λ e.
             let (_, paid, (q, some)) = asks-survivor a e in
             let (passed, _) = stops.shown q paid some in
-            let (_, _, shown) = asks-shown a (inDifference (differenceOf ds i)) (λ p m s. (stops.shown p m s).1) e in
+            let (_, _, shown) = asks-shown a (in_difference (difference_of ds i)) (λ p m s. (stops.shown p m s).1) e in
             rw (asks-index a (omega arith) (omega arith)) (passed, shown.inside);
-        undecided-index = λ e. let (_, unpaid, _) = asks-undecided a e in rw (asks-index a (omega arith) (omega arith)) (stops.late unpaid);
+        undecided_index = λ e. let (_, unpaid, _) = asks-undecided a e in rw (asks-index a (omega arith) (omega arith)) (stops.late unpaid);
       }
 
 -- what is written
@@ -74,7 +74,7 @@ pub record Shows (x : Told) : Type 0 where
   pub silent : (x.answer.number ≡ 2 → ⊥) → length x.bytes ≡ 0
   pub unwritten : (x.answer.number ≡ 2 → ⊥) → x.answer.written ≡ 0
   pub uncounted : 10 ≤ x.answer.number → x.answer.count ≡ 0
-  pub unindexed : 10 ≤ x.answer.number → x.answer.index ≡ noDifference
+  pub unindexed : 10 ≤ x.answer.number → x.answer.index ≡ no_difference
 
 pub deciding-shows : (w : ℕ) (d : Decision) → Shows (deciding w d)
 deciding-shows w (undecided n i) = omega arith
@@ -82,7 +82,7 @@ deciding-shows w (empty n) = omega arith
 deciding-shows w (member n i p) = record { silent = λ f. absurd (f refl); unwritten = λ f. absurd (f refl); uncounted = omega arith; unindexed = omega arith }
 
 pub walk_kept : {w n room : ℕ} {In : Header → Bool} {v : Found} {ds : Region} {vs : List Found} {Ok : Type 0} (k : Rows Told)
-    → Mute k → LastLine Shows k → Decides w n In v ds vs Ok (outcome k) → (Ok → headerLen w ≤ room) → Kept room (outcome k)
+    → Mute k → LastLine Shows k → Decides w n In v ds vs Ok (outcome k) → (Ok → header_len w ≤ room) → Kept room (outcome k)
 walk_kept {room = room} k mute line d fits = go (eqb (outcome k).answer.number 2) refl
   where
     go : (b : Bool) → eqb (outcome k).answer.number 2 ≡ b → Kept room (outcome k)
@@ -108,9 +108,9 @@ walk_kept {room = room} k mute line d fits = go (eqb (outcome k).answer.number 2
         }
 
 -- what is counted
-pub pieces-at-most-ceilings : (r : Region) → (walkRegion r).pieces ≤ ceilings r
+pub pieces-at-most-ceilings : (r : Region) → (walk_region r).pieces ≤ ceilings r
 pieces-at-most-ceilings [] = omega arith
-pieces-at-most-ceilings (d ∷ r) = omega (arith, next-at-most (walk d) (walkRegion r), pieces-at-most-ceiling d, pieces-at-most-ceilings r)
+pieces-at-most-ceilings (d ∷ r) = omega (arith, next-at-most (walk d) (walk_region r), pieces-at-most-ceiling d, pieces-at-most-ceilings r)
 
 pub count-at-most-pieces : (w n i : ℕ) (v : Found) → (deciding w (decide n i v)).answer.count ≤ v.pieces
 count-at-most-pieces w n i v =

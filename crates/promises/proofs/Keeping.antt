@@ -12,7 +12,7 @@ use mathlib.Core.List.{List, [], ◌∷◌}
 use mathlib.Core.Logic.{inl, inr}
 use lib.ListN.{length}
 use Rattle.answer.specs.declared.Answer.{Answer}
-use Rattle.answer.specs.Answer.{noDifference}
+use Rattle.answer.specs.Answer.{no_difference}
 use Rattle.format.specs.Rows.{Rows, last, row, outcome, Fails}
 use Rattle.format.specs.Told.{Told, Permitted}
 use Rattle.format.proofs.Reached.{each}
@@ -21,14 +21,14 @@ use Rattle.promises.specs.Outcome.{Kept, Unwritten}
 abbrev pub Mute : Rows Told → Type 0
 Mute (last x) = Unit {0}
 Mute (row t x k) =
-    (length x.bytes ≡ 0) × (x.answer.written ≡ 0) × (x.answer.count ≡ 0) × (x.answer.index ≡ noDifference) × Mute k
+    (length x.bytes ≡ 0) × (x.answer.written ≡ 0) × (x.answer.count ≡ 0) × (x.answer.index ≡ no_difference) × Mute k
 
 abbrev pub LastLine : (Told → Type 0) → Rows Told → Type 0
 LastLine P (last x) = P x
 LastLine P (row t x k) = Fails t → LastLine P k
 
 module _ (P : Told → Type 0)
-    (still : (x : Told) → length x.bytes ≡ 0 → x.answer.written ≡ 0 → x.answer.count ≡ 0 → x.answer.index ≡ noDifference → P x) where
+    (still : (x : Told) → length x.bytes ≡ 0 → x.answer.written ≡ 0 → x.answer.count ≡ 0 → x.answer.index ≡ no_difference → P x) where
   pub told-by : (k : Rows Told) → Mute k → LastLine P k → P (outcome k)
   unfolding outcome
   told-by (last x) m e = e

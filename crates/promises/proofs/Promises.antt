@@ -2,11 +2,11 @@
 --
 -- Who believes these words and reads this page with the files below it knows what is proved; each word stands in a file of specs that opens with its
 -- glossary:
---   model/specs              headers, cubes, differences, regions (Header, holds, inDifference, inRegion), the operations, the walk, its ceiling,
+--   model/specs              headers, cubes, differences, regions (Header, holds, in_difference, in_region), the operations, the walk, its ceiling,
 --                            which difference decides (FirstIn, Passed, Unpaid)
 --   format/specs             what the bytes say (Bytes, Records, Files), a table of tests (Rows), what is told (Told), each call's definition (Calls),
 --                            what answers mean (Meaning: Lent, Inside, Outside, Written, WrittenCube, Shown, Seen, Onward)
---   region/specs/Stepping    some steps of reading on and of a reader (answers, told), and the records before an offset (recordsBefore)
+--   region/specs/Stepping    some steps of reading on and of a reader (answers, told), and the records before an offset (records_before)
 --   promises/specs           a contract and its outcomes (Outcome), where a call is answered (Accepted), demand 3 (Decides)
 use Prim.Native.Nat.{ℕ, ◌-◌, ◌/◌, ◌%◌, ◌*◌, ◌^◌, ◌<◌}
 use native.Mathlib.Omega.{arith}
@@ -56,7 +56,7 @@ pub use Host.*
 -- (FORMAT 128): the set meaning of the meet and of lying in, of tidying, intersection, subtraction, prefix and
 -- equality;
 pub use Rattle.model.proofs.Cubes.{in_meet, shares-shown, apart_none, within_in, within-out}
-pub use Rattle.model.proofs.Tidying.{in-tidyRegion, tidy-tidy}
+pub use Rattle.model.proofs.Tidying.{in-tidy_region, tidy-tidy}
 pub use Rattle.model.proofs.Setting.{in-intersection, in-intersections, in-subtraction, in-subtractions, restored-back}
 pub use Rattle.model.proofs.Field.{in-prefix, in-equal}
 -- what survives the walk is in and shows a header, and no survivor means that none is;

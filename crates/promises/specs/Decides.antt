@@ -9,12 +9,12 @@
 --   ceilings r               == the ceilings of the differences of r, added up
 use Rattle.std.specs.Prelude.{ℕ, ◌+◌, ◌≤◌, ◌<◌, ◌≡◌, List, [], ◌∷◌, ◌↔◌, Bool, true, false}
 use Rattle.model.specs.Cube.{Header}
-use Rattle.model.specs.Difference.{Region, inDifference}
+use Rattle.model.specs.Difference.{Region, in_difference}
 use Rattle.model.specs.Walk.{Found}
-use Rattle.model.specs.Index.{differenceOf, Passed, Unpaid}
+use Rattle.model.specs.Index.{difference_of, Passed, Unpaid}
 use Rattle.model.specs.Ceiling.{ceiling}
-use Rattle.answer.specs.Answer.{noDifference}
-use Rattle.format.specs.Bytes.{readHeader}
+use Rattle.answer.specs.Answer.{no_difference}
+use Rattle.format.specs.Bytes.{read_header}
 use Rattle.format.specs.Told.{Told}
 use Rattle.format.specs.Meaning.{Shown}
 
@@ -23,13 +23,13 @@ pub record Decides (w n : ℕ) (In : Header → Bool) (v : Found) (ds : Region) 
   pub no : (x.answer.number ≡ 2) ↔ (Ok × (v.pieces ≤ n) × ((h : Header) × (In h ≡ true)))
   pub shown : x.answer.number ≡ 2 → Shown w In x
   pub undecided : (x.answer.number ≡ 3) ↔ (Ok × (n < v.pieces))
-  pub yes-count : x.answer.number ≡ 1 → x.answer.count ≡ v.pieces
-  pub no-count : x.answer.number ≡ 2 → x.answer.count ≡ v.pieces
-  pub undecided-count : x.answer.number ≡ 3 → x.answer.count ≡ n
-  pub yes-index : x.answer.number ≡ 1 → x.answer.index ≡ noDifference
+  pub yes_count : x.answer.number ≡ 1 → x.answer.count ≡ v.pieces
+  pub no_count : x.answer.number ≡ 2 → x.answer.count ≡ v.pieces
+  pub undecided_count : x.answer.number ≡ 3 → x.answer.count ≡ n
+  pub yes_index : x.answer.number ≡ 1 → x.answer.index ≡ no_difference
   pub no_index : x.answer.number ≡ 2
-      → Passed ds x.answer.index × (inDifference (differenceOf ds x.answer.index) (readHeader w x.bytes) ≡ true)
-  pub undecided-index : x.answer.number ≡ 3 → Passed ds x.answer.index × Unpaid n vs x.answer.index
+      → Passed ds x.answer.index × (in_difference (difference_of ds x.answer.index) (read_header w x.bytes) ≡ true)
+  pub undecided_index : x.answer.number ≡ 3 → Passed ds x.answer.index × Unpaid n vs x.answer.index
 
 abbrev pub ceilings : Region → ℕ
 ceilings [] = 0

@@ -19,7 +19,7 @@ use denote.Triple.Clauses.{AtExit}
 use borrow.Fn.Kind.{ParamKind, ResultKind}
 use borrow.Fn.Kinds.{In, Out, Dens, res_t, ended_of}
 use Rattle.answer.specs.declared.Answer.{Answer}
-use Rattle.answer.specs.Answer.{noDifference}
+use Rattle.answer.specs.Answer.{no_difference}
 use Rattle.format.specs.Told.{Told, Permitted}
 
 pub record Promise {n : ℕ} (ps : List (ParamKind n)) (r : ResultKind n) (Asked : In n ps) (Learnt P : Out n ps r) : Type 0 where
@@ -43,7 +43,7 @@ pub record Kept (room : ℕ) (x : Told) : Type 0 where
   pub yes : x.answer.number ≡ 1 → length x.bytes ≡ 0
   pub undecided : x.answer.number ≡ 3 → length x.bytes ≡ 0
   pub uncounted : 10 ≤ x.answer.number → x.answer.count ≡ 0
-  pub unindexed : 10 ≤ x.answer.number → x.answer.index ≡ noDifference
+  pub unindexed : 10 ≤ x.answer.number → x.answer.index ≡ no_difference
   pub told : x.answer.written ≡ length x.bytes
   pub fits : length x.bytes ≤ room
 

@@ -1,6 +1,6 @@
 // Reads a region file on standard input and writes one line: whether no header can come through, or one that can.
 ghost use Rattle.std.specs.Prelude.{◌≡◌, length};
-ghost use Rattle.format.specs.Limits.{widestHeader};
+ghost use Rattle.format.specs.Limits.{widest_header};
 ghost use Rattle.format.specs.Told.{over};
 ghost use Rattle.format.specs.Calls.{question};
 
@@ -13,7 +13,7 @@ const MOST_INPUT: usize = 65536;
 
 // What the input is answered: 25 where it is too long, else emptiness with the program's allowance (FORMAT 49, 140).
 fn ask(input: &[u8], header: &mut [u8]) -> Answer
-    requires { length header.old ≡ widestHeader }
+    requires { length header.old ≡ widest_header }
     ensures answer { result ≡ (question input.now).answer }
     ensures bytes { header.new ≡ over header.old (question input.now).bytes }
 {

@@ -8,32 +8,32 @@ use mathlib.Core.List.{List, [], ◌∷◌}
 use mathlib.Core.Bool.{Bool, true, false, cond}
 use borrow.Author.Tests.{eqb-true, eqb-false}
 use lib.Dec.{eqb}
-use Rattle.model.specs.Difference.{Holder, unheld, held, firstHolder}
+use Rattle.model.specs.Difference.{Holder, unheld, held, first_holder}
 use Rattle.answer.specs.declared.Answer.{Answer}
 use Rattle.format.specs.Rows.{last, outcome}
-use Rattle.format.specs.Bytes.{codes, readHeader}
-use Rattle.format.specs.Records.{width_of, differenceAt}
-use Rattle.format.specs.Files.{readFile, faultNumber, regionIn}
-use Rattle.format.specs.Told.{silent, bitsTests, oneRecord, lentHeader, belonging}
-use Rattle.format.specs.Calls.{diff-member, region-member}
+use Rattle.format.specs.Bytes.{codes, read_header}
+use Rattle.format.specs.Records.{width_of, difference_at}
+use Rattle.format.specs.Files.{read_file, fault_number, region_in}
+use Rattle.format.specs.Told.{silent, bits_tests, one_record, lent_header, belonging}
+use Rattle.format.specs.Calls.{diff_member, region_member}
 use Rattle.format.proofs.Lending.{bits-refused, bits-passed, bits-lent, one-passed, one_lent, file-passed}
 use Rattle.format.proofs.Recording.{record_of}
 use Rattle.format.proofs.Filing.{file-of}
-use Rattle.cube.specs.Header.{spelledCube}
-use Rattle.region.specs.Asked.{inRecord, holderOf, orHeld}
+use Rattle.cube.specs.Header.{spelled_cube}
+use Rattle.region.specs.Asked.{in_record, holder_of, or_held}
 use Rattle.region.specs.Reader.{AskedIs}
 use Rattle.region.specs.declared.asking.Asked.{Asked}
 use Rattle.region.proofs.Held.{record-member, file-member}
 
 module _ (w : ℕ) (h : List ℕ) where
-  pub header-asked : (x y : Holder) → ((outcome (bitsTests w w h)).number ≡ 0 → x ≡ y)
-      → outcome (lentHeader w h (last (belonging x))) ≡ outcome (lentHeader w h (last (belonging y)))
+  pub header-asked : (x y : Holder) → ((outcome (bits_tests w w h)).number ≡ 0 → x ≡ y)
+      → outcome (lent_header w h (last (belonging x))) ≡ outcome (lent_header w h (last (belonging y)))
   header-asked x y f = go (eqb r.number 0) refl
     where
       r : Answer
-      r = outcome (bitsTests w w h)
+      r = outcome (bits_tests w w h)
 
-      go : (t : Bool) → eqb r.number 0 ≡ t → outcome (lentHeader w h (last (belonging x))) ≡ outcome (lentHeader w h (last (belonging y)))
+      go : (t : Bool) → eqb r.number 0 ≡ t → outcome (lent_header w h (last (belonging x))) ≡ outcome (lent_header w h (last (belonging y)))
       go true e =
           let z = eqb-true r.number 0 e in
           sym (bits-passed w w h r refl (last (belonging x)) z) ∙ ap (λ (k : Holder). outcome (last (belonging k))) (f z)
@@ -42,26 +42,26 @@ module _ (w : ℕ) (h : List ℕ) where
           let n = eqb-false r.number 0 e in
           sym (bits-refused w w h r refl (last (belonging x)) n) ∙ bits-refused w w h r refl (last (belonging y)) n
 
-pub diff-told : (w : ℕ) (s h c : List ℕ) (x : Holder) (r : Answer) → r ≡ outcome (oneRecord w s) → r.number ≡ 0 → codes c ≡ spelledCube h
-    → x ≡ orHeld unheld (inRecord w c s 0) 0 → outcome (lentHeader w h (last (belonging x))) ≡ diff-member w s h
-unfolding diff-member
+pub diff-told : (w : ℕ) (s h c : List ℕ) (x : Holder) (r : Answer) → r ≡ outcome (one_record w s) → r.number ≡ 0 → codes c ≡ spelled_cube h
+    → x ≡ or_held unheld (in_record w c s 0) 0 → outcome (lent_header w h (last (belonging x))) ≡ diff_member w s h
+unfolding diff_member
 diff-told w s h c x r i z e q =
     let l = one_lent w s r i z in
-    let y = firstHolder (differenceAt w s 0 ∷ []) (readHeader w h) in
+    let y = first_holder (difference_at w s 0 ∷ []) (read_header w h) in
     header-asked w h x y
     (λ p.
     q ∙ ap (λ (b : Bool). cond b (held 0) unheld)
     (record-member w h c l.narrow (bits-lent w w h _ refl p).0 e (record_of true w 0 s 0 l.sound)))
-    ∙ one-passed w s r i silent (lentHeader w h (last (belonging y))) z
+    ∙ one-passed w s r i silent (lent_header w h (last (belonging y))) z
 
-pub region-told : (s h c : List ℕ) (r : Asked) → AskedIs s c r → faultNumber (readFile s) ≡ 0 → codes c ≡ spelledCube h
-    → outcome (lentHeader r.file.width h (last (belonging (holderOf r.holder)))) ≡ region-member s h
-unfolding region-member
+pub region-told : (s h c : List ℕ) (r : Asked) → AskedIs s c r → fault_number (read_file s) ≡ 0 → codes c ≡ spelled_cube h
+    → outcome (lent_header r.file.width h (last (belonging (holder_of r.holder)))) ≡ region_member s h
+unfolding region_member
 region-told s h c r i n e =
     let w = width_of s in
     let a = file-of s n in
-    let x = holderOf r.holder in
-    let y = firstHolder (regionIn s) (readHeader w h) in
-    ap (λ (v : ℕ). outcome (lentHeader v h (last (belonging x)))) i.file.width
+    let x = holder_of r.holder in
+    let y = first_holder (region_in s) (read_header w h) in
+    ap (λ (v : ℕ). outcome (lent_header v h (last (belonging x)))) i.file.width
     ∙ header-asked w h x y (λ z. i.holder ∙ file-member w h c a.width.narrow (bits-lent w w h _ refl z).0 e a.list)
-    ∙ file-passed s 1 (lentHeader w h (last (belonging y))) n
+    ∙ file-passed s 1 (lent_header w h (last (belonging y))) n

@@ -1,5 +1,5 @@
 -- Stepping through an accepted file by its records' lengths. A loop `while at < s.len() { .. at = front_at(s, at).next; }` has the invariant
--- `AllAccepted w s at`, beside what it says of `regionAhead w s at`, the region of the differences still to come.
+-- `AllAccepted w s at`, beside what it says of `region_ahead w s at`, the region of the differences still to come.
 --   ahead-end, ahead-next       the offsets from an offset on: none at the end; else this one and those from the next record on
 --   region-end, region-next     their region
 --   listed-ahead                of accepted records they are those that are listed
@@ -18,12 +18,12 @@ use mathlib.Core.Path.{◌≡◌, refl, sym, ap, ◌∙◌}
 use mathlib.Core.List.{List, [], ◌∷◌}
 use mathlib.Core.Bool.{false}
 use lib.ListN.{length, get_or}
-use Rattle.format.specs.Records.{width_of, first_at, differenceAt}
-use Rattle.format.specs.Files.{readFile, offsets, regionOf, regionIn}
+use Rattle.format.specs.Records.{width_of, first_at, difference_at}
+use Rattle.format.specs.Files.{read_file, offsets, region_of, region_in}
 use Rattle.format.proofs.Recording.{Record}
 use Rattle.format.proofs.Filing.{Listed, ended, listed, listed-turn, File, file-of}
-use Rattle.region.specs.Front.{frontAt}
-use Rattle.region.specs.Ahead.{ahead, regionAhead}
+use Rattle.region.specs.Front.{front_at}
+use Rattle.region.specs.Ahead.{ahead, region_ahead}
 use Rattle.region.specs.Reader.{FileIs}
 use Rattle.region.specs.declared.files.File as result
 use Rattle.region.proofs.Fronts.{front-own, front-next}
@@ -31,10 +31,10 @@ use Rattle.region.proofs.Strides.{steps-end, steps-turn}
 
 module _ (s : List ℕ) (at : ℕ) where
   pub ahead-end : length s ≤ at → ahead s at ≡ []
-  ahead-end h = steps-end (λ x. (frontAt s x).next) (length s) at h
+  ahead-end h = steps-end (λ x. (front_at s x).next) (length s) at h
 
-  pub ahead-next : at < length s → ahead s at ≡ at ∷ ahead s (frontAt s at).next
-  ahead-next h = steps-turn (λ x. (frontAt s x).next) (length s) (λ x l. omega arith) at h
+  pub ahead-next : at < length s → ahead s at ≡ at ∷ ahead s (front_at s at).next
+  ahead-next h = steps-turn (λ x. (front_at s x).next) (length s) (λ x l. omega arith) at h
 
   pub seek-end : (d z : ℕ) → length s ≤ at → get_or (ahead s at) d z ≡ z
   seek-end d z h = rw (ahead-end h)
@@ -42,16 +42,16 @@ module _ (s : List ℕ) (at : ℕ) where
   pub seek-here : (d z : ℕ) → at < length s → d ≡ 0 → get_or (ahead s at) d z ≡ at
   seek-here d z h e = rw (ahead-next h, e)
 
-  pub seek-turn : (d z : ℕ) → at < length s → (d ≡ 0 → ⊥) → get_or (ahead s at) d z ≡ get_or (ahead s (frontAt s at).next) (d - 1) z
+  pub seek-turn : (d z : ℕ) → at < length s → (d ≡ 0 → ⊥) → get_or (ahead s at) d z ≡ get_or (ahead s (front_at s at).next) (d - 1) z
   seek-turn zero z h n = absurd (n refl)
   seek-turn (suc d) z h n = rw (ahead-next h, sub-one)
 
 module _ (w : ℕ) (s : List ℕ) (at : ℕ) where
-  pub region-end : length s ≤ at → regionAhead w s at ≡ []
-  region-end h = ap (regionOf w s) (ahead-end s at h)
+  pub region-end : length s ≤ at → region_ahead w s at ≡ []
+  region-end h = ap (region_of w s) (ahead-end s at h)
 
-  pub region-next : at < length s → regionAhead w s at ≡ differenceAt w s at ∷ regionAhead w s (frontAt s at).next
-  region-next h = ap (regionOf w s) (ahead-next s at h)
+  pub region-next : at < length s → region_ahead w s at ≡ difference_at w s at ∷ region_ahead w s (front_at s at).next
+  region-next h = ap (region_of w s) (ahead-next s at h)
 
 pub listed-ahead : {w : ℕ} {s : List ℕ} {at n : ℕ} {os : List ℕ} → Listed w s at n os → ahead s at ≡ os
 listed-ahead {s = s} (ended {at} h) = ahead-end s at h
@@ -62,14 +62,14 @@ pub record AllAccepted (w : ℕ) (s : List ℕ) (at : ℕ) : Type 0 where
   pub passed : ℕ
   pub list : Listed w s at passed (ahead s at)
 
-pub file-ahead : {s : List ℕ} → File s → offsets (readFile s) ≡ ahead s (first_at s)
+pub file-ahead : {s : List ℕ} → File s → offsets (read_file s) ≡ ahead s (first_at s)
 file-ahead f = sym (listed-ahead f.list)
 
 pub onward-file : {s : List ℕ} → File s → AllAccepted (width_of s) s (first_at s)
 onward-file f = record { passed = 0; list = rw (← file-ahead f) f.list }
 
-pub file-region : {s : List ℕ} → File s → regionIn s ≡ regionAhead (width_of s) s (first_at s)
-file-region {s} f = ap (regionOf (width_of s) s) (file-ahead f)
+pub file-region : {s : List ℕ} → File s → region_in s ≡ region_ahead (width_of s) s (first_at s)
+file-region {s} f = ap (region_of (width_of s) s) (file-ahead f)
 
 pub file-some : {s : List ℕ} → File s → 0 < length s
 unfolding first_at
@@ -82,7 +82,7 @@ module _ {w : ℕ} {s : List ℕ} {at : ℕ} (o : AllAccepted w s at) (h : at < 
   pub onward-record : Record false w 0 s at
   onward-record = let r = (listed-turn o.list h).2 in omega (arith, r)
 
-  pub onward-next : AllAccepted w s (frontAt s at).next
+  pub onward-next : AllAccepted w s (front_at s at).next
   onward-next =
       let t = listed-turn o.list h in
       rw (front-next onward-record (front-own s at)) (record { passed = o.passed + 1; list = rw (listed-ahead t.3) t.3 })

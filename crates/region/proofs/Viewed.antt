@@ -9,9 +9,9 @@ use mathlib.Core.List.{List, [], ◌∷◌}
 use mathlib.Core.Bool.{false}
 use lib.ListN.{length, get_or}
 use Rattle.answer.specs.Answer.{yes, refused, fault}
-use Rattle.format.specs.Bytes.{cubeLen}
+use Rattle.format.specs.Bytes.{cube_len}
 use Rattle.format.specs.Records.{width_of, first_at}
-use Rattle.format.specs.Files.{readFile, offsets}
+use Rattle.format.specs.Files.{read_file, offsets}
 use Rattle.format.specs.Calls.{unseen, view}
 use Rattle.format.proofs.Reached.{reached}
 use Rattle.format.proofs.Recording.{Record}
@@ -41,10 +41,10 @@ module _ (s : List ℕ) (r : File) (f : FileIs s r) (d i : ℕ) where
   view-none n l = reached 1 _ (sym f.number ∙ n, omega (arith, f.count))
 
   module _ (n : r.number ≡ 0) (l : d < r.count) (at : ℕ) (e : at ≡ get_or (ahead s (first_at s)) d (length s)) where
-    offset : at ≡ get_or (offsets (readFile s)) d 0
+    offset : at ≡ get_or (offsets (read_file s)) d 0
     offset =
         let o = file-ahead (file-of s (sym f.number ∙ n)) in
-        e ∙ ap (λ (os : List ℕ). get_or os d (length s)) (sym o) ∙ inside (offsets (readFile s)) d (length s) 0 (omega (arith, f.count))
+        e ∙ ap (λ (os : List ℕ). get_or os d (length s)) (sym o) ∙ inside (offsets (read_file s)) d (length s) 0 (omega (arith, f.count))
 
     here : (n : ℕ) × Record false (width_of s) n s at
     here = rw offset (listed_at (file-of s (sym f.number ∙ n)).list d (omega (arith, f.count)))
@@ -55,13 +55,13 @@ module _ (s : List ℕ) (r : File) (f : FileIs s r) (d i : ℕ) where
       view-beyond b = let k = rw (p.cuts, offset) at b in reached 2 _ (sym f.number ∙ n, (omega (arith, f.count), k))
 
       pub view-cube : i ≤ front.cuts
-          → record { answer = yes; start = front.base + i * cubeLen (width_of s); size = cubeLen (width_of s) } ≡ view s d i
+          → record { answer = yes; start = front.base + i * cube_len (width_of s); size = cube_len (width_of s) } ≡ view s d i
       unfolding view
       view-cube b =
           let k = rw (p.cuts, offset) at b in
           rw (front-base here.1 p, offset) (reached 3 _ (sym f.number ∙ n, (omega (arith, f.count), (k, tt))))
 
-      pub view-room : i ≤ front.cuts → front.base + i * cubeLen (width_of s) + cubeLen (width_of s) ≤ length s
+      pub view-room : i ≤ front.cuts → front.base + i * cube_len (width_of s) + cube_len (width_of s) ≤ length s
       view-room b =
           let k : i + 1 ≤ front.cuts + 1 = omega arith in
-          omega (arith, mul-le-mul_right (cubeLen (width_of s)) k, front-stands here.1 p)
+          omega (arith, mul-le-mul_right (cube_len (width_of s)) k, front-stands here.1 p)

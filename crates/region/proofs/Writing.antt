@@ -13,104 +13,104 @@ use mathlib.Core.Path.{◌≡◌, refl, sym, ap, ◌∙◌}
 use mathlib.Core.List.{List, [], ◌∷◌, append-nil}
 use lib.ListN.{length, get_or, take, drop}
 use lib.Seq.{length-take-le, take-add, drop-drop}
-use Rattle.format.specs.Limits.{widestCube, mostCuts}
-use Rattle.format.specs.Bytes.{Bytes, cubeLen, codes, cubeBytes, writeCube}
-use Rattle.format.specs.Records.{frontLen, cubesBytes, frontBytes, differenceBytes}
+use Rattle.format.specs.Limits.{widest_cube, most_cuts}
+use Rattle.format.specs.Bytes.{Bytes, cube_len, codes, cube_bytes, write_cube}
+use Rattle.format.specs.Records.{front_len, cubes_bytes, front_bytes, difference_bytes}
 use Rattle.format.specs.Told.{over}
 use Rattle.format.proofs.Coding.{length-codes, write-padded, write_bytes, codes-tell}
 use Rattle.format.proofs.Recording.{bytes_take, bytes_drop}
 use Rattle.format.proofs.Reached.{reached}
 use Rattle.format.proofs.Recording.{bytes_take, bytes_drop}
 use Rattle.cube.specs.Lay.{put}
-use Rattle.cube.specs.Whole.{cubeOf, whole_at, wholesAt}
+use Rattle.cube.specs.Whole.{cube_of, whole_at, wholes_at}
 use Rattle.cube.proofs.Laying.{put-fits, put-long, over-more, length_over}
 use Rattle.cube.proofs.Wholes.{row-length}
-use Rattle.region.specs.Writing.{lenRows, recordLen, longestRecord, recordBytes, rowDifference, frontRows, putFront, putRows, putRecord}
+use Rattle.region.specs.Writing.{len_rows, record_len, longest_record, record_bytes, row_difference, front_rows, put_front, put_rows, put_record}
 
 pub all-bytes : (s : List ℕ) → ((i : ℕ) → get_or s i 0 < 256) → Bytes s
 all-bytes [] h = tt
 all-bytes (b ∷ s) h = (h 0, all-bytes s (λ i. h (suc i)))
 
-write-codes : (b : List ℕ) → Bytes b → writeCube (codes b) ≡ b
+write-codes : (b : List ℕ) → Bytes b → write_cube (codes b) ≡ b
 write-codes b h =
-    let l : cubeLen (length (codes b)) ≡ length b = omega (arith, length-codes b) in
+    let l : cube_len (length (codes b)) ≡ length b = omega (arith, length-codes b) in
     let e : 4 * length b - length (codes b) ≡ 0 = omega (arith, length-codes b) in
     rw l
-    (codes-tell (cubeBytes (length b) (codes b)) b (write_bytes (length b) (codes b)) h
+    (codes-tell (cube_bytes (length b) (codes b)) b (write_bytes (length b) (codes b)) h
     (write-padded (length b) (codes b) (omega (arith, length-codes b)) ∙ rw e (append-nil (codes b))))
 
-row-bytes : (q : ℕ) (s : List ℕ) (at n : ℕ) → Bytes s → cubesBytes (wholesAt q s at n) ≡ take (n * q) (drop at s)
-unfolding wholesAt whole_at cubeOf
+row-bytes : (q : ℕ) (s : List ℕ) (at n : ℕ) → Bytes s → cubes_bytes (wholes_at q s at n) ≡ take (n * q) (drop at s)
+unfolding wholes_at whole_at cube_of
 row-bytes q s at zero h = let e : 0 * q ≡ 0 = omega arith in rw e
 row-bytes q s at (suc n) h =
     let e : suc n * q ≡ q + n * q = omega arith in
     rw (e, take-add, drop-drop, write-codes (take q (drop at s)) (bytes_take q (drop at s) (bytes_drop at s h)), row-bytes q s (at + q) n h)
 
-pub front_length : (k q : ℕ) → length (frontBytes k q) ≡ frontLen k
-unfolding frontLen frontBytes
+pub front_length : (k q : ℕ) → length (front_bytes k q) ≡ front_len k
+unfolding front_len front_bytes
 front_length k q = refl
 
-pub record-bytes : (k q : ℕ) (cubes : List ℕ) → Bytes cubes → recordBytes cubes k q ≡ differenceBytes (4 * q) (rowDifference k q cubes)
-unfolding differenceBytes
+pub record-bytes : (k q : ℕ) (cubes : List ℕ) → Bytes cubes → record_bytes cubes k q ≡ difference_bytes (4 * q) (row_difference k q cubes)
+unfolding difference_bytes
 record-bytes k q cubes h =
-    let e : cubeLen (4 * q) ≡ q = omega arith in
+    let e : cube_len (4 * q) ≡ q = omega arith in
     let z : 0 + q ≡ q = zero-add q in
-    let t : cubesBytes (whole_at q cubes 0 ∷ wholesAt q cubes (0 + q) k) ≡ take (suc k * q) cubes = unfold wholesAt in row-bytes q cubes 0 (suc k) h in
+    let t : cubes_bytes (whole_at q cubes 0 ∷ wholes_at q cubes (0 + q) k) ≡ take (suc k * q) cubes = unfold wholes_at in row-bytes q cubes 0 (suc k) h in
     let r = rw z at t in
     let d : (k + 1) * q ≡ suc k * q = omega arith in
     rw (row-length q cubes q k, e, r, d)
 
-module _ (k q : ℕ) (few : k ≤ mostCuts) (short : q ≤ widestCube) where
-  pub cubes-few : (k + 1) * q ≤ (mostCuts + 1) * widestCube
-  cubes-few = mul-le-mul {n₂ = mostCuts + 1} {m₂ = widestCube} (omega arith) short
+module _ (k q : ℕ) (few : k ≤ most_cuts) (short : q ≤ widest_cube) where
+  pub cubes-few : (k + 1) * q ≤ (most_cuts + 1) * widest_cube
+  cubes-few = mul-le-mul {n₂ = most_cuts + 1} {m₂ = widest_cube} (omega arith) short
 
-  pub record-len : recordLen k q ≡ frontLen k + (k + 1) * q
-  unfolding recordLen
-  record-len = sym (reached 2 (lenRows k q) (few, (short, tt)))
+  pub record-len : record_len k q ≡ front_len k + (k + 1) * q
+  unfolding record_len
+  record-len = sym (reached 2 (len_rows k q) (few, (short, tt)))
 
-  pub record-longest : recordLen k q ≤ longestRecord
-  unfolding frontLen
+  pub record-longest : record_len k q ≤ longest_record
+  unfolding front_len
   record-longest = rw record-len (omega (arith, cubes-few))
 
-  pub front-put : (old : List ℕ) → frontLen k ≤ length old → putFront old k q ≡ over old (frontBytes k q)
-  unfolding putFront frontLen frontBytes
-  front-put old h = sym (reached 2 (frontRows old k q) (few, (short, tt))) ∙ put-fits old 0 (frontBytes k q) (omega arith)
+  pub front-put : (old : List ℕ) → front_len k ≤ length old → put_front old k q ≡ over old (front_bytes k q)
+  unfolding put_front front_len front_bytes
+  front-put old h = sym (reached 2 (front_rows old k q) (few, (short, tt))) ∙ put-fits old 0 (front_bytes k q) (omega arith)
 
   module _ (old cubes : List ℕ) where
-    pub record-few : length cubes < (k + 1) * q → old ≡ putRecord old cubes k q
-    unfolding putRecord
-    record-few h = reached 2 (putRows old cubes k q) (few, (short, h))
+    pub record-few : length cubes < (k + 1) * q → old ≡ put_record old cubes k q
+    unfolding put_record
+    record-few h = reached 2 (put_rows old cubes k q) (few, (short, h))
 
     module _ (enough : (k + 1) * q ≤ length cubes) where
-      size : length (recordBytes cubes k q) ≡ frontLen k + (k + 1) * q
-      unfolding frontLen frontBytes
+      size : length (record_bytes cubes k q) ≡ front_len k + (k + 1) * q
+      unfolding front_len front_bytes
       size = let l = length-take-le ((k + 1) * q) cubes enough in omega (arith, l)
 
-      whole : put old 0 (recordBytes cubes k q) ≡ putRecord old cubes k q
-      unfolding putRecord
-      whole = reached 3 (putRows old cubes k q) (few, (short, (enough, tt)))
+      whole : put old 0 (record_bytes cubes k q) ≡ put_record old cubes k q
+      unfolding put_record
+      whole = reached 3 (put_rows old cubes k q) (few, (short, (enough, tt)))
 
-      pub record-short : length old < frontLen k + (k + 1) * q → old ≡ putRecord old cubes k q
-      record-short h = sym (put-long old 0 (recordBytes cubes k q) (omega (arith, size))) ∙ whole
+      pub record-short : length old < front_len k + (k + 1) * q → old ≡ put_record old cubes k q
+      record-short h = sym (put-long old 0 (record_bytes cubes k q) (omega (arith, size))) ∙ whole
 
-      module _ (room : frontLen k + (k + 1) * q ≤ length old) where
-        pub record-done : (mid new : List ℕ) → mid ≡ putFront old k q → new ≡ put mid (frontLen k) (take ((k + 1) * q - 0) cubes)
-            → new ≡ putRecord old cubes k q
-        unfolding frontLen frontBytes
+      module _ (room : front_len k + (k + 1) * q ≤ length old) where
+        pub record-done : (mid new : List ℕ) → mid ≡ put_front old k q → new ≡ put mid (front_len k) (take ((k + 1) * q - 0) cubes)
+            → new ≡ put_record old cubes k q
+        unfolding front_len front_bytes
         record-done mid new e f =
             let part = take ((k + 1) * q) cubes in
             let n : (k + 1) * q - 0 ≡ (k + 1) * q = omega arith in
             let l = length-take-le ((k + 1) * q) cubes enough in
-            let m : mid ≡ over old (frontBytes k q) = e ∙ front-put old (omega arith) in
-            let s : length mid ≡ length old = ap length m ∙ length_over old (frontBytes k q) (omega arith) in
-            rw n at f ∙ put-fits mid (frontLen k) part (omega (arith, l, s))
-            ∙ rw m (over-more old (frontBytes k q) part (frontLen k) (omega arith))
-            ∙ sym (put-fits old 0 (recordBytes cubes k q) (omega (arith, size)))
+            let m : mid ≡ over old (front_bytes k q) = e ∙ front-put old (omega arith) in
+            let s : length mid ≡ length old = ap length m ∙ length_over old (front_bytes k q) (omega arith) in
+            rw n at f ∙ put-fits mid (front_len k) part (omega (arith, l, s))
+            ∙ rw m (over-more old (front_bytes k q) part (front_len k) (omega arith))
+            ∙ sym (put-fits old 0 (record_bytes cubes k q) (omega (arith, size)))
             ∙ whole
 
-        pub record-put : Bytes cubes → putRecord old cubes k q ≡ over old (differenceBytes (4 * q) (rowDifference k q cubes))
-        record-put b = sym whole ∙ put-fits old 0 (recordBytes cubes k q) (omega (arith, size)) ∙ ap (over old) (record-bytes k q cubes b)
+        pub record-put : Bytes cubes → put_record old cubes k q ≡ over old (difference_bytes (4 * q) (row_difference k q cubes))
+        record-put b = sym whole ∙ put-fits old 0 (record_bytes cubes k q) (omega (arith, size)) ∙ ap (over old) (record-bytes k q cubes b)
 
   pub record-length : (cubes : List ℕ) → Bytes cubes → (k + 1) * q ≤ length cubes
-      → length (differenceBytes (4 * q) (rowDifference k q cubes)) ≡ recordLen k q
+      → length (difference_bytes (4 * q) (row_difference k q cubes)) ≡ record_len k q
   record-length cubes b h = ap length (sym (record-bytes k q cubes b)) ∙ size [] cubes h ∙ sym record-len

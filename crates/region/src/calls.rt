@@ -1,9 +1,9 @@
 // Membership, as it is asked from outside.
 ghost use Rattle.std.specs.Prelude.{◌≡◌};
 ghost use Rattle.format.specs.Rows.{last, outcome};
-ghost use Rattle.format.specs.Told.{lentHeader, belonging};
-ghost use Rattle.format.specs.Calls.{diff-member, region-member};
-ghost use Rattle.region.specs.Asked.{holderOf};
+ghost use Rattle.format.specs.Told.{lent_header, belonging};
+ghost use Rattle.format.specs.Calls.{diff_member, region_member};
+ghost use Rattle.region.specs.Asked.{holder_of};
 
 use super::asking::ask_file;
 use super::front::front_at;
@@ -14,7 +14,7 @@ use cube::{bits_refusal, cube_len, spelled};
 
 // The answer about an operand that is accepted: 11 for a header that is not well formed, else which difference is the first to hold it.
 fn told(h: &[u8], w: usize, holder: Holder) -> Answer
-    ensures { result ≡ (outcome (lentHeader w h.now (last (belonging (holderOf holder))))).answer }
+    ensures { result ≡ (outcome (lent_header w h.now (last (belonging (holder_of holder))))).answer }
 {
     let refusal = bits_refusal(h, w, w);
     if refusal.number != 0 {
@@ -28,7 +28,7 @@ fn told(h: &[u8], w: usize, holder: Holder) -> Answer
 
 // Whether the header h of w positions is in the difference that is lent as one kind 2 record.
 pub fn diff_member(w: usize, s: &[u8], h: &[u8]) -> Answer
-    ensures { result ≡ (diff-member w s.now h.now).answer }
+    ensures { result ≡ (diff_member w s.now h.now).answer }
 {
     let refusal = one_refusal(w, s);
     if refusal.number != 0 {
@@ -41,7 +41,7 @@ pub fn diff_member(w: usize, s: &[u8], h: &[u8]) -> Answer
 
 // Whether the header h is in a difference of the region file, and the first that it is in. The whole file is read before the answer, and once.
 pub fn region_member(s: &[u8], h: &[u8]) -> Answer
-    ensures { result ≡ (region-member s.now h.now).answer }
+    ensures { result ≡ (region_member s.now h.now).answer }
 {
     let c = spelled(h);
     let asked = ask_file(s, &c);

@@ -1,6 +1,6 @@
 // The region reader: the file that is lent and a place in it, thin over `read_on`.
 ghost use Rattle.std.specs.Prelude.{◌≡◌};
-ghost use Rattle.format.specs.Calls.{read-on};
+ghost use Rattle.format.specs.Calls.{read_on};
 ghost use Rattle.region.specs.Viewing.{stepped};
 ghost use Rattle.region.specs.Stepping.{begun, turned};
 
@@ -44,7 +44,7 @@ pub fn step_on<'a>(r: Reader<'a>) -> Turn<'a>
 
 // The first step of a file's reader, for a caller who has the file alone and keeps no reader.
 pub fn first_step(file: &[u8]) -> Step
-    ensures { stepped result ≡ read-on file.now 0 }
+    ensures { stepped result ≡ read_on file.now 0 }
 {
     let t = step_on(begin_reading(file));
     Step {

@@ -1,8 +1,8 @@
 // The reader of a kind 2 record.
 ghost use Rattle.std.specs.Prelude.{◌≡◌, true, ◌+◌, ◌*◌, ◌≤◌, ◌<◌, length};
 ghost use Rattle.format.specs.Rows.{outcome};
-ghost use Rattle.format.specs.Bytes.{cubeLen};
-ghost use Rattle.format.specs.Records.{cubesFault, numberRows, differenceFault};
+ghost use Rattle.format.specs.Bytes.{cube_len};
+ghost use Rattle.format.specs.Records.{cubes_fault, number_rows, difference_fault};
 ghost use Rattle.region.specs.Front.{FrontIs};
 ghost use Rattle.region.specs.Reader.{ReadIs};
 
@@ -14,7 +14,7 @@ use cube::{cube_fault, cube_len};
 // What the numbers of the record say is wrong with it, before its cubes are looked at, or 0. No two bytes say the length of a cube above 65,535 bytes.
 fn numbers_fault(s: &[u8], at: usize, front: Front, w: usize, n: usize, alone: bool) -> u8
     requires { FrontIs s.now at front × (front.length < 65536) }
-    ensures { result ≡ outcome (numberRows alone w n s.now at) }
+    ensures { result ≡ outcome (number_rows alone w n s.now at) }
 {
     let fault = frame_fault(s, at, front, DIFFERENCE_KIND);
     if fault != 0 {
@@ -46,8 +46,8 @@ fn numbers_fault(s: &[u8], at: usize, front: Front, w: usize, n: usize, alone: b
 
 // What is wrong with the first bad one of k cubes from an offset on, or 0.
 fn cubes_fault(s: &[u8], at: usize, w: usize, k: usize) -> u8
-    requires { at + k * cubeLen w ≤ length s.now }
-    ensures { result ≡ cubesFault w s.now at k }
+    requires { at + k * cube_len w ≤ length s.now }
+    ensures { result ≡ cubes_fault w s.now at k }
 {
     let q = cube_len(w);
     let mut a = at;
@@ -66,7 +66,7 @@ fn cubes_fault(s: &[u8], at: usize, w: usize, k: usize) -> u8
 // What is wrong with the kind 2 record at an offset, which has that front, with n differences before it: 13 to 19, or 0. `alone`: nothing may follow it.
 fn front_fault(s: &[u8], at: usize, front: Front, w: usize, n: usize, alone: bool) -> u8
     requires { FrontIs s.now at front × (front.length < 65536) }
-    ensures { result ≡ differenceFault alone w n s.now at }
+    ensures { result ≡ difference_fault alone w n s.now at }
 {
     let fault = numbers_fault(s, at, front, w, n, alone);
     if fault != 0 {
@@ -77,7 +77,7 @@ fn front_fault(s: &[u8], at: usize, front: Front, w: usize, n: usize, alone: boo
 
 // What is wrong with a record that is lent alone.
 pub(crate) fn alone_fault(s: &[u8], w: usize) -> u8
-    ensures { result ≡ differenceFault true w 0 s.now 0 }
+    ensures { result ≡ difference_fault true w 0 s.now 0 }
 {
     front_fault(s, 0, front_at(s, 0), w, 0, true)
 }

@@ -1,6 +1,6 @@
 // Reading on: one difference after another, on plain bytes and a place.
 ghost use Rattle.std.specs.Prelude.{◌≡◌};
-ghost use Rattle.format.specs.Calls.{read-on, start_of};
+ghost use Rattle.format.specs.Calls.{read_on, start_of};
 ghost use Rattle.region.specs.Viewing.{stepped};
 
 use super::record::read_record;
@@ -23,7 +23,7 @@ fn start_of(s: &[u8], place: usize) -> usize
 
 // The difference at a place of a region file: 1 with its offset and the place after it; 2 at the end; or a refusal. Place 0 is the first difference.
 pub fn read_on(s: &[u8], place: usize) -> Step
-    ensures { stepped result ≡ read-on s.now place }
+    ensures { stepped result ≡ read_on s.now place }
 {
     let wrong = width_fault(s);
     if wrong != 0 {

@@ -1,6 +1,6 @@
 // The kind 1 record that a region file starts with.
 ghost use Rattle.std.specs.Prelude.{◌≡◌, ◌<◌};
-ghost use Rattle.format.specs.Records.{width_of, first_at, widthFault};
+ghost use Rattle.format.specs.Records.{width_of, first_at, width_fault};
 
 use super::bytes::u16_at;
 use super::frame::frame_fault;
@@ -24,7 +24,7 @@ pub fn first_at(s: &[u8]) -> usize
 
 // What is wrong with the record: 15, 16, 17, 10, or 0.
 pub(crate) fn width_fault(s: &[u8]) -> u8
-    ensures { result ≡ widthFault s.now }
+    ensures { result ≡ width_fault s.now }
 {
     let front = front_at(s, 0);
     let fault = frame_fault(s, 0, front, WIDTH_KIND);

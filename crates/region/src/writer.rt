@@ -1,8 +1,8 @@
 // What writes a record. How a record looks in front of its cubes is said here and in the reading, and nowhere else.
 ghost use Rattle.std.specs.Prelude.{◌≡◌};
-ghost use Rattle.format.specs.Records.{frontLen, width_bytes};
+ghost use Rattle.format.specs.Records.{front_len, width_bytes};
 ghost use Rattle.cube.specs.Lay.{put};
-ghost use Rattle.region.specs.Writing.{recordLen, putFront, putRecord};
+ghost use Rattle.region.specs.Writing.{record_len, put_front, put_record};
 
 use super::limits::{DIFFERENCE_KIND, FRONT, LENGTH, MOST_CUTS, WIDTH_KIND, WIDTH_LENGTH};
 use cube::{WIDEST_CUBE, put};
@@ -27,14 +27,14 @@ pub fn put_width(out: &mut [u8], w: usize)
 
 // The bytes in front of the base of a record with k cuts: its length, its kind and its count.
 pub fn front_len(k: usize) -> usize
-    ensures { result ≡ frontLen k }
+    ensures { result ≡ front_len k }
 {
     FRONT
 }
 
 // The bytes of the record of a difference with k cuts of q bytes; 0 where k or q is above its limit.
 pub fn record_len(k: usize, q: usize) -> usize
-    ensures { result ≡ recordLen k q }
+    ensures { result ≡ record_len k q }
 {
     if MOST_CUTS < k {
         return 0;
@@ -47,7 +47,7 @@ pub fn record_len(k: usize, q: usize) -> usize
 
 // Puts the front of the record of a difference with k cuts of q bytes over the front of out, if it fits there; nothing where k or q is above its limit.
 pub fn put_front(out: &mut [u8], k: usize, q: usize)
-    ensures { out.new ≡ putFront out.old k q }
+    ensures { out.new ≡ put_front out.old k q }
 {
     if MOST_CUTS < k {
         return;
@@ -72,7 +72,7 @@ pub fn put_front(out: &mut [u8], k: usize, q: usize)
 // Puts the record of the difference with k cuts whose cubes of q bytes stand in `cubes`, the base first, over the front of out, if it fits there; nothing
 // where k or q is above its limit, or where there are fewer cubes.
 pub fn put_record(out: &mut [u8], cubes: &[u8], k: usize, q: usize)
-    ensures { out.new ≡ putRecord out.old cubes.now k q }
+    ensures { out.new ≡ put_record out.old cubes.now k q }
 {
     if MOST_CUTS < k {
         return;

@@ -18,12 +18,12 @@ use lib.Pow.{pow-add, high, shr-shr}
 use Rattle.model.specs.Padding.{pad}
 use Rattle.format.specs.Bytes.{code_of, codes}
 use Rattle.format.proofs.Coding.{length-codes, code-at, codes-free}
-use Rattle.visits.specs.Words.{placeAt, number_in, cubeOfWords, rowCube}
+use Rattle.visits.specs.Words.{place_at, number_in, cube_of_words, row_cube}
 use Rattle.visits.specs.Loading.{padded, HoldsBytes, Loaded}
 use Rattle.visits.proofs.Digits.{same_or_not, below_or, same_low, threes-at}
 use Rattle.visits.proofs.WordCubes.{words-ext}
 use Rattle.cube.proofs.Codes.{below4, codes-append}
-use Rattle.cube.specs.Whole.{cubeOf, whole_at}
+use Rattle.cube.specs.Whole.{cube_of, whole_at}
 
 pub padded-inside : (q : ℕ) (bs : List ℕ) (b : ℕ) → q ≤ length bs → b < q → get_or (padded q bs) b 0 ≡ get_or bs b 0
 unfolding padded
@@ -40,8 +40,8 @@ pub padded-long : (q : ℕ) (bs : List ℕ) → q ≤ length bs → q ≤ 80 →
 unfolding padded
 padded-long q bs l h = length-append (take q bs) (replicate (80 - q) 255) ∙ rw (length-take-le q bs l, length-replicate {A = ℕ} (80 - q) 255) (omega arith)
 
-pub padded-codes : (q : ℕ) (bs : List ℕ) → codes (padded q bs) ≡ pad (320 - 4 * q) (cubeOf q bs)
-unfolding padded cubeOf
+pub padded-codes : (q : ℕ) (bs : List ℕ) → codes (padded q bs) ≡ pad (320 - 4 * q) (cube_of q bs)
+unfolding padded cube_of
 padded-codes q bs =
     let e : 4 * (80 - q) ≡ 320 - 4 * q = omega arith in
     codes-append (take q bs) (replicate (80 - q) 255) ∙ rw (codes-free (80 - q), e)
@@ -85,7 +85,7 @@ holds-free q bs b l h k = (
       rw (e, threes-at j i, padded-behind q bs (b + j / 4) l (omega arith) (omega arith)) (sym (all-threes (j % 4) (omega arith))),
 )
 
-pub words-hold : (ws P : List ℕ) → length P ≡ 80 → ((w : ℕ) → w < 10 → HoldsBytes P 8 (8 * w) (get_or ws w 0)) → cubeOfWords ws ≡ codes P
+pub words-hold : (ws P : List ℕ) → length P ≡ 80 → ((w : ℕ) → w < 10 → HoldsBytes P 8 (8 * w) (get_or ws w 0)) → cube_of_words ws ≡ codes P
 unfolding number_in
 words-hold ws P l h =
     words-ext ws (codes P) (omega (arith, length-codes P))
@@ -94,12 +94,12 @@ words-hold ws P l h =
     let e : 62 - 2 * (i % 32) ≡ 2 * (4 * 8 - 1 - i % 32) = omega arith in
     let a : 8 * (i / 32) + i % 32 / 4 ≡ i / 4 = omega arith in
     let b : i % 32 % 4 ≡ i % 4 = omega arith in
-    let n : placeAt (get_or ws (i / 32) 0) (i % 32) ≡ get_or P (i / 4) 0 / 4 ^ (3 - i % 4) % 4 = rw e (rw (a, b) at t) in
+    let n : place_at (get_or ws (i / 32) 0) (i % 32) ≡ get_or P (i / 4) 0 / 4 ^ (3 - i % 4) % 4 = rw e (rw (a, b) at t) in
     ap code_of n ∙ sym (code-at P i (omega arith)))
 
 -- bytes taken out of words
 pub unloaded : (ws bytes : List ℕ) → length bytes ≡ 80 → ((b : ℕ) → b < 80 → get_or bytes b 0 ≡ get_or ws (b / 8) 0 / 2 ^ (56 - 8 * (b % 8)) % 256)
-    → codes bytes ≡ cubeOfWords ws
+    → codes bytes ≡ cube_of_words ws
 unfolding number_in
 unloaded ws bytes l h =
     sym (words-ext ws (codes bytes) (omega (arith, length-codes bytes)) (λ i k. sym (code-at bytes i (omega arith) ∙ ap code_of (one i k))))
@@ -126,8 +126,8 @@ word_more P ws w x l h f v i =
     ⊎_elim (λ (e : v ≡ w). rw (e, get_or-set_same ws w x 0 l) h) (λ (e : v ≡ w → ⊥). rw (get_or-set_other ws w v x 0 e) (f v (omega arith))) (same_or_not v w)
 
 pub row_more : (q : ℕ) (s : List ℕ) (at n : ℕ) (cuts : List (List ℕ)) (m here : ℕ) (ws : List ℕ) → m < length cuts → here ≡ at + (n - 1 - m) * q
-    → cubeOfWords ws ≡ pad (320 - 4 * q) (whole_at q s here) → Loaded q s at n cuts m → Loaded q s at n (set cuts m ws) (m + 1)
-unfolding rowCube
+    → cube_of_words ws ≡ pad (320 - 4 * q) (whole_at q s here) → Loaded q s at n cuts m → Loaded q s at n (set cuts m ws) (m + 1)
+unfolding row_cube
 row_more q s at n cuts m here ws l eh e f k i =
     ⊎_elim (λ (d : k ≡ m). rw (d, get_or-set_same cuts m ws [] l) (rw eh at e)) (λ (d : k ≡ m → ⊥). rw (get_or-set_other cuts m k ws [] d) (f k (omega arith))) (same_or_not k m)
 

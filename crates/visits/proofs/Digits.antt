@@ -24,7 +24,7 @@ use lib.Bits.{bit_and, bit_or, bit_xor, and_shr, and_mod, or_shr, or_mod, xor_sh
 use Rattle.model.specs.Walk.{opens}
 use Rattle.format.specs.Bytes.{code_of}
 use Rattle.visits.specs.Opening.{bit}
-use Rattle.visits.specs.Words.{placeAt, Openings, GivenWord}
+use Rattle.visits.specs.Words.{place_at, Openings, GivenWord}
 use Rattle.visits.specs.Alive.{digit}
 
 pub same_or_not : (m n : ℕ) → (m ≡ n) ⊎ (m ≡ n → ⊥)
@@ -54,10 +54,10 @@ digit_and j x y = rw (and_shr x y j) (and_mod (x / 2 ^ j) (y / 2 ^ j) 1)
 pub digit-xor : (j x y : ℕ) → digit j (bit_xor x y) ≡ bit_xor (digit j x) (digit j y)
 digit-xor j x y = rw (xor_shr x y j) (xor_mod (x / 2 ^ j) (y / 2 ^ j) 1)
 
-pub place-and : (k x y : ℕ) → placeAt (bit_and x y) k ≡ bit_and (placeAt x k) (placeAt y k)
+pub place-and : (k x y : ℕ) → place_at (bit_and x y) k ≡ bit_and (place_at x k) (place_at y k)
 place-and k x y = rw (and_shr x y (62 - 2 * k)) (and_mod (x / 2 ^ (62 - 2 * k)) (y / 2 ^ (62 - 2 * k)) 2)
 
-pub place-or : (k x y : ℕ) → placeAt (bit_or x y) k ≡ bit_or (placeAt x k) (placeAt y k)
+pub place-or : (k x y : ℕ) → place_at (bit_or x y) k ≡ bit_or (place_at x k) (place_at y k)
 place-or k x y = rw (or_shr x y (62 - 2 * k)) (or_mod (x / 2 ^ (62 - 2 * k)) (y / 2 ^ (62 - 2 * k)) 2)
 
 -- w digits from j on
@@ -94,11 +94,11 @@ each zero f t k h = absurd (omega arith)
 each (suc n) f t k h =
     ⊎_elim (λ (e : k ≡ n). rw e (split-and (f n) (every n f) t).0) (λ l. each n f (split-and (f n) (every n f) t).1 k l) (last_or k n h)
 
-ones-at : (k : ℕ) → k < 32 → placeAt 0x5555555555555555 k ≡ 1
-ones-at k h = eqb→eq (placeAt 0x5555555555555555 k) 1 (each 32 (λ j. eqb (placeAt 0x5555555555555555 j) 1) tt k h)
+ones-at : (k : ℕ) → k < 32 → place_at 0x5555555555555555 k ≡ 1
+ones-at k h = eqb→eq (place_at 0x5555555555555555 k) 1 (each 32 (λ j. eqb (place_at 0x5555555555555555 j) 1) tt k h)
 
-pub threes-at : (k : ℕ) → k < 32 → placeAt 18446744073709551615 k ≡ 3
-threes-at k h = eqb→eq (placeAt 18446744073709551615 k) 3 (each 32 (λ j. eqb (placeAt 18446744073709551615 j) 3) tt k h)
+pub threes-at : (k : ℕ) → k < 32 → place_at 18446744073709551615 k ≡ 3
+threes-at k h = eqb→eq (place_at 18446744073709551615 k) 3 (each 32 (λ j. eqb (place_at 18446744073709551615 j) 3) tt k h)
 
 half-shr : (x k : ℕ) → x / 2 / 2 ^ k ≡ x / 2 ^ k / 2
 half-shr x k = shr-shr x 1 k ∙ rw (let e : 1 + k ≡ k + 1 = omega arith in e) (sym (shr-shr x k 1))
@@ -167,7 +167,7 @@ top_of x h l =
     let e : 63 - count_leading_zeros 64 x ≡ t.0 = omega (arith, t.1) in
     rw e (record { small = omega (arith, t.1); under = t.3; over = t.2 })
 
-pub given-right : (x k v : ℕ) → k < 32 → v ≤ 3 → placeAt x k ≡ 3 → GivenWord x k v (x - (3 - v) * 2 ^ (62 - 2 * k))
+pub given-right : (x k v : ℕ) → k < 32 → v ≤ 3 → place_at x k ≡ 3 → GivenWord x k v (x - (3 - v) * 2 ^ (62 - 2 * k))
 given-right x k v h l e = (at, elsewhere)
   where
     s : ℕ
@@ -190,7 +190,7 @@ given-right x k v h l e = (at, elsewhere)
     below : r % 2 ^ s ≡ x % 2 ^ s
     below = rw cut (low (x / 2 ^ s - (3 - v)) s (mod-lt x (pow_pos s)))
 
-    at : placeAt r k ≡ v
+    at : place_at r k ≡ v
     at = rw above (omega arith)
 
     quarter : r / 2 ^ s / 4 ≡ x / 2 ^ s / 4
@@ -200,7 +200,7 @@ given-right x k v h l e = (at, elsewhere)
     later t = sym (shr-shr r (s + 2) t) ∙ ap (λ (n : ℕ). n / 2 ^ t) (sym (shr-shr r s 2) ∙ quarter ∙ shr-shr x s 2) ∙ shr-shr x (s + 2) t
 
     -- the places before k, of more weight, and those after it
-    elsewhere : (j : ℕ) → j < 32 → (j ≡ k → ⊥) → placeAt r j ≡ placeAt x j
+    elsewhere : (j : ℕ) → j < 32 → (j ≡ k → ⊥) → place_at r j ≡ place_at x j
     elsewhere j i n =
         ⊎_elim (λ (z : j < k). let d : 62 - 2 * j ≡ s + 2 + (2 * (k - j) - 2) = omega arith in rw d (ap (λ (m : ℕ). m % 4) (later (2 * (k - j) - 2))))
         (λ (z : k ≤ j). same_low r x s 2 (62 - 2 * j) below (omega arith)) (below_or j k)
@@ -208,7 +208,7 @@ given-right x k v h l e = (at, elsewhere)
 pub taken-fits : (k v : ℕ) → (3 - v) * 2 ^ (62 - 2 * k) % 2 ^ 64 ≡ (3 - v) * 2 ^ (62 - 2 * k)
 taken-fits k v = shl_exact 2 (62 - 2 * k) 64 (omega arith) (omega arith)
 
-pub taken-there : (x k v : ℕ) → placeAt x k ≡ 3 → (3 - v) * 2 ^ (62 - 2 * k) ≤ x
+pub taken-there : (x k v : ℕ) → place_at x k ≡ 3 → (3 - v) * 2 ^ (62 - 2 * k) ≤ x
 taken-there x k v e =
     let s = 62 - 2 * k in
     let q : 3 - v ≤ x / 2 ^ s = omega arith in

@@ -18,9 +18,9 @@ use lib.Seq.{get_or-set_same, get_or-set_other}
 use Rattle.model.specs.Cube.{Code, none, v0, v1, free, Cube, shares}
 use Rattle.model.specs.Walk.{opens}
 use Rattle.format.specs.Bytes.{code_of, codes}
-use Rattle.cube.specs.Whole.{cubeOf, whole_at}
-use Rattle.visits.specs.Opening.{bit, firstOpen}
-use Rattle.visits.specs.Words.{number_in, cubeOfWords, rowCube}
+use Rattle.cube.specs.Whole.{cube_of, whole_at}
+use Rattle.visits.specs.Opening.{bit, first_open}
+use Rattle.visits.specs.Words.{number_in, cube_of_words, row_cube}
 use Rattle.visits.specs.Alive.{digit, clash, Against}
 use Rattle.visits.specs.Loading.{Entered, Met, row_of}
 use Rattle.visits.proofs.Digits.{same_or_not, digit-below, digit-top, threes-at}
@@ -42,7 +42,7 @@ digit-more m x false h =
     record { under = omega (arith, pow-double m); below = λ j l. rw e; top = rw (e, div-eq_of_lt h) }
 
 -- all free
-pub free-words : (j : ℕ) → j < 320 → get_or (cubeOfWords (replicate 10 18446744073709551615)) j none ≡ free
+pub free-words : (j : ℕ) → j < 320 → get_or (cube_of_words (replicate 10 18446744073709551615)) j none ≡ free
 unfolding number_in
 free-words j h =
     words-at (replicate 10 18446744073709551615) j h
@@ -82,7 +82,7 @@ closed-clash v1 v1 e = absurd (true≢false e)
 closed-clash v1 free e = refl
 closed-clash free y e = refl
 
-pub fresh : (rows : List ℕ) (one : ℕ) → Entered rows (cubeOfWords (replicate 10 18446744073709551615)) one rows
+pub fresh : (rows : List ℕ) (one : ℕ) → Entered rows (cube_of_words (replicate 10 18446744073709551615)) one rows
 fresh rows one i v h k = rw (free-words i h, clash-free (code_of (suc v))) (omega arith)
 
 module _ (rows : List ℕ) (near : Cube) (one : ℕ) (after : List ℕ) (en : Entered rows near one after) (i y : ℕ) (h : i < 320) (least : 1 ≤ y) (most : y ≤ 2) (un : get_or near i none ≡ free) where
@@ -110,16 +110,16 @@ module _ (rows : List ℕ) (near : Cube) (one : ℕ) (after : List ℕ) (en : En
           ∙ en i v h w ∙ rw (un, clash-free (code_of (suc v)), clash-same v y least most w q))
           (same_or_not v (2 - y)))
 
-pub enter-end : (rows near cut : List ℕ) (one i : ℕ) (after : List ℕ) → 320 ≤ i → i ≡ firstOpen (cubeOfWords near) (cubeOfWords cut)
-    → ((j : ℕ) → j < 320 → (get_or (cubeOfWords near) j none ≡ free) ⊎ (get_or (cubeOfWords near) j none ≡ get_or (cubeOfWords cut) j none))
-    → Entered rows (cubeOfWords near) one after → Entered rows (cubeOfWords cut) one after
+pub enter-end : (rows near cut : List ℕ) (one i : ℕ) (after : List ℕ) → 320 ≤ i → i ≡ first_open (cube_of_words near) (cube_of_words cut)
+    → ((j : ℕ) → j < 320 → (get_or (cube_of_words near) j none ≡ free) ⊎ (get_or (cube_of_words near) j none ≡ get_or (cube_of_words cut) j none))
+    → Entered rows (cube_of_words near) one after → Entered rows (cube_of_words cut) one after
 enter-end rows near cut one i after h f ag en j v k w =
     en j v k w
     ∙ ⊎_elim
-    (λ (e : get_or (cubeOfWords near) j none ≡ free).
-    let o = before-first (cubeOfWords near) (cubeOfWords cut) j (words-length near ∙ sym (words-length cut)) (omega arith) in
-    rw (e, closed-clash (code_of (suc v)) (get_or (cubeOfWords cut) j none) (rw e at o)))
-    (λ (e : get_or (cubeOfWords near) j none ≡ get_or (cubeOfWords cut) j none). rw e) (ag j k)
+    (λ (e : get_or (cube_of_words near) j none ≡ free).
+    let o = before-first (cube_of_words near) (cube_of_words cut) j (words-length near ∙ sym (words-length cut)) (omega arith) in
+    rw (e, closed-clash (code_of (suc v)) (get_or (cube_of_words cut) j none) (rw e at o)))
+    (λ (e : get_or (cube_of_words near) j none ≡ get_or (cube_of_words cut) j none). rw e) (ag j k)
 
 pub agree-turn : (near cut : Cube) (i : ℕ) (y : Code) (p : Cube) → i < length near → p ≡ set near i y → y ≡ get_or cut i none
     → ((j : ℕ) → j < 320 → (get_or near j none ≡ free) ⊎ (get_or near j none ≡ get_or cut j none)) → (j : ℕ) → j < 320 → (get_or p j none ≡ free) ⊎ (get_or p j none ≡ get_or cut j none)
@@ -133,13 +133,13 @@ pub record EnteredAll (cuts : List (List ℕ)) (m : ℕ) (rows : List ℕ) : Typ
   pub right : Against cuts m rows
 
 pub entered-more : (cuts : List (List ℕ)) (m : ℕ) (rows after : List ℕ) (one : ℕ) → one ≡ 2 ^ m → length after ≡ 640
-    → Entered rows (rowCube cuts m) one after
+    → Entered rows (row_cube cuts m) one after
     → EnteredAll cuts m rows
     → EnteredAll cuts (m + 1) after
 entered-more cuts m rows after one eo l en e = record { long = l; small = small; right = right }
   where
-    more : (i v : ℕ) → i < 320 → v < 2 → DigitMore m (get_or rows (2 * i + v) 0) (clash (code_of (suc v)) (get_or (rowCube cuts m) i none))
-    more i v h k = digit-more m (get_or rows (2 * i + v) 0) (clash (code_of (suc v)) (get_or (rowCube cuts m) i none)) (e.small (2 * i + v) (omega arith))
+    more : (i v : ℕ) → i < 320 → v < 2 → DigitMore m (get_or rows (2 * i + v) 0) (clash (code_of (suc v)) (get_or (row_cube cuts m) i none))
+    more i v h k = digit-more m (get_or rows (2 * i + v) 0) (clash (code_of (suc v)) (get_or (row_cube cuts m) i none)) (e.small (2 * i + v) (omega arith))
 
     small : (k : ℕ) → k < 640 → get_or after k 0 < 2 ^ (m + 1)
     small k h =
@@ -166,7 +166,7 @@ met-more q s at n p m x y b ey eb e =
     )
 
 pub part-row : (q : ℕ) (s : List ℕ) (at n m here len : ℕ) → Down at n m q here len → codes (take (here - (here - q)) (drop (here - q) s)) ≡ row_of q s at n m
-unfolding whole_at cubeOf
+unfolding whole_at cube_of
 part-row q s at n m here len d =
     let e : here - (here - q) ≡ q = omega (arith, d.there) in
     rw (e, d.row)

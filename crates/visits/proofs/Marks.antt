@@ -15,20 +15,20 @@ use lib.Count.{count_leading_zeros}
 use lib.Dec.{eqb, eqb→eq}
 use Rattle.model.specs.Cube.{Code, none, v0, v1, free}
 use Rattle.model.specs.Walk.{opens}
-use Rattle.format.specs.Bytes.{code_of, codes, isFree}
+use Rattle.format.specs.Bytes.{code_of, codes, is_free}
 use Rattle.format.proofs.Coding.{length-codes}
 use Rattle.cube.proofs.Every.{below}
-use Rattle.visits.specs.Opening.{firstOpen, isFixed, bit, quads, marks, openings}
+use Rattle.visits.specs.Opening.{first_open, is_fixed, bit, quads, marks, openings}
 use Rattle.visits.proofs.Openings.{first-most, first-drop}
 use Rattle.cube.proofs.Codes.{codes-drop}
 
-pub free-right : (x : ℕ) → x < 256 → bit_and (bit_and x (x / 2)) 85 ≡ marks isFree x
+pub free-right : (x : ℕ) → x < 256 → bit_and (bit_and x (x / 2)) 85 ≡ marks is_free x
 unfolding marks
-free-right x h = eqb→eq (bit_and (bit_and x (x / 2)) 85) (marks isFree x) (below 256 (λ k. eqb (bit_and (bit_and k (k / 2)) 85) (marks isFree k)) tt x h)
+free-right x h = eqb→eq (bit_and (bit_and x (x / 2)) 85) (marks is_free x) (below 256 (λ k. eqb (bit_and (bit_and k (k / 2)) 85) (marks is_free k)) tt x h)
 
-pub fixed-right : (y : ℕ) → y < 256 → bit_and (bit_xor y (y / 2)) 85 ≡ marks isFixed y
+pub fixed-right : (y : ℕ) → y < 256 → bit_and (bit_xor y (y / 2)) 85 ≡ marks is_fixed y
 unfolding marks
-fixed-right y h = eqb→eq (bit_and (bit_xor y (y / 2)) 85) (marks isFixed y) (below 256 (λ k. eqb (bit_and (bit_xor k (k / 2)) 85) (marks isFixed k)) tt y h)
+fixed-right y h = eqb→eq (bit_and (bit_xor y (y / 2)) 85) (marks is_fixed y) (below 256 (λ k. eqb (bit_and (bit_xor k (k / 2)) 85) (marks is_fixed k)) tt y h)
 
 and-bits : (a b : Bool) → bit_and (bit a) (bit b) ≡ bit (a && b)
 and-bits true true = refl
@@ -45,7 +45,7 @@ and-quads a b c d a' b' c' d' =
     and_block 2 ((bit a * 4 + bit b) * 4 + bit c) ((bit a' * 4 + bit b') * 4 + bit c') (bit d) (bit d') (bit-lt d) (bit-lt d')
     ∙ rw (and_block 2 (bit a * 4 + bit b) (bit a' * 4 + bit b') (bit c) (bit c') (bit-lt c) (bit-lt c'), and_block 2 (bit a) (bit a') (bit b) (bit b') (bit-lt b) (bit-lt b'), and-bits a a', and-bits b b', and-bits c c', and-bits d d')
 
-opens-both : (x y : Code) → isFree x && isFixed y ≡ opens x y
+opens-both : (x y : Code) → is_free x && is_fixed y ≡ opens x y
 opens-both none y = refl
 opens-both v0 y = refl
 opens-both v1 y = refl
@@ -54,11 +54,11 @@ opens-both free v0 = refl
 opens-both free v1 = refl
 opens-both free free = refl
 
-pub and-marks : (x y : ℕ) → bit_and (marks isFree x) (marks isFixed y) ≡ openings x y
+pub and-marks : (x y : ℕ) → bit_and (marks is_free x) (marks is_fixed y) ≡ openings x y
 unfolding marks openings
 and-marks x y =
-    and-quads (isFree (code_of (x / 64 % 4))) (isFree (code_of (x / 16 % 4))) (isFree (code_of (x / 4 % 4))) (isFree (code_of (x % 4)))
-    (isFixed (code_of (y / 64 % 4))) (isFixed (code_of (y / 16 % 4))) (isFixed (code_of (y / 4 % 4))) (isFixed (code_of (y % 4)))
+    and-quads (is_free (code_of (x / 64 % 4))) (is_free (code_of (x / 16 % 4))) (is_free (code_of (x / 4 % 4))) (is_free (code_of (x % 4)))
+    (is_fixed (code_of (y / 64 % 4))) (is_fixed (code_of (y / 16 % 4))) (is_fixed (code_of (y / 4 % 4))) (is_fixed (code_of (y % 4)))
     ∙ rw (opens-both (code_of (x / 64 % 4)) (code_of (y / 64 % 4)), opens-both (code_of (x / 16 % 4)) (code_of (y / 16 % 4)), opens-both (code_of (x / 4 % 4)) (code_of (y / 4 % 4)), opens-both (code_of (x % 4)) (code_of (y % 4)))
 
 -- the first place that opens, of one byte and of those after it
@@ -92,31 +92,31 @@ later false false false true n h = absurd (omega arith)
 later false false false false n h = omega arith
 
 module _ (x y : ℕ) (xs ys : List ℕ) where
-  pub first-here : (openings x y ≡ 0 → ⊥) → firstOpen (codes (x ∷ xs)) (codes (y ∷ ys)) ≡ count_leading_zeros 8 (openings x y) / 2
-  unfolding firstOpen openings
+  pub first-here : (openings x y ≡ 0 → ⊥) → first_open (codes (x ∷ xs)) (codes (y ∷ ys)) ≡ count_leading_zeros 8 (openings x y) / 2
+  unfolding first_open openings
   first-here h =
       here (opens (code_of (x / 64 % 4)) (code_of (y / 64 % 4))) (opens (code_of (x / 16 % 4)) (code_of (y / 16 % 4)))
-      (opens (code_of (x / 4 % 4)) (code_of (y / 4 % 4))) (opens (code_of (x % 4)) (code_of (y % 4))) (firstOpen (codes xs) (codes ys)) h
+      (opens (code_of (x / 4 % 4)) (code_of (y / 4 % 4))) (opens (code_of (x % 4)) (code_of (y % 4))) (first_open (codes xs) (codes ys)) h
 
-  pub first-later : openings x y ≡ 0 → firstOpen (codes (x ∷ xs)) (codes (y ∷ ys)) ≡ 4 + firstOpen (codes xs) (codes ys)
-  unfolding firstOpen openings
+  pub first-later : openings x y ≡ 0 → first_open (codes (x ∷ xs)) (codes (y ∷ ys)) ≡ 4 + first_open (codes xs) (codes ys)
+  unfolding first_open openings
   first-later h =
       later (opens (code_of (x / 64 % 4)) (code_of (y / 64 % 4))) (opens (code_of (x / 16 % 4)) (code_of (y / 16 % 4)))
-      (opens (code_of (x / 4 % 4)) (code_of (y / 4 % 4))) (opens (code_of (x % 4)) (code_of (y % 4))) (firstOpen (codes xs) (codes ys)) h
+      (opens (code_of (x / 4 % 4)) (code_of (y / 4 % 4))) (opens (code_of (x % 4)) (code_of (y % 4))) (first_open (codes xs) (codes ys)) h
 
 -- a loop over bytes of which those before b open nowhere
-module _ (xs ys : List ℕ) (e : length xs ≡ length ys) (b : ℕ) (h : b < length xs) (k : 4 * b ≤ firstOpen (codes xs) (codes ys)) where
-  from_byte : firstOpen (codes xs) (codes ys) ≡ 4 * b + firstOpen (codes (get_or xs b 0 ∷ drop (suc b) xs)) (codes (get_or ys b 0 ∷ drop (suc b) ys))
+module _ (xs ys : List ℕ) (e : length xs ≡ length ys) (b : ℕ) (h : b < length xs) (k : 4 * b ≤ first_open (codes xs) (codes ys)) where
+  from_byte : first_open (codes xs) (codes ys) ≡ 4 * b + first_open (codes (get_or xs b 0 ∷ drop (suc b) xs)) (codes (get_or ys b 0 ∷ drop (suc b) ys))
   from_byte =
       let l : b < length ys = omega arith in
       first-drop (4 * b) (codes xs) (codes ys) (omega (arith, length-codes xs, length-codes ys)) k
       ∙ rw (← codes-drop b xs, ← codes-drop b ys, drop-cons xs b 0 h, drop-cons ys b 0 l)
 
-  pub byte-opens : (openings (get_or xs b 0) (get_or ys b 0) ≡ 0 → ⊥) → 4 * b + count_leading_zeros 8 (openings (get_or xs b 0) (get_or ys b 0)) / 2 ≡ firstOpen (codes xs) (codes ys)
+  pub byte-opens : (openings (get_or xs b 0) (get_or ys b 0) ≡ 0 → ⊥) → 4 * b + count_leading_zeros 8 (openings (get_or xs b 0) (get_or ys b 0)) / 2 ≡ first_open (codes xs) (codes ys)
   byte-opens n = omega (arith, from_byte, first-here (get_or xs b 0) (get_or ys b 0) (drop (suc b) xs) (drop (suc b) ys) n)
 
-  pub byte-passed : openings (get_or xs b 0) (get_or ys b 0) ≡ 0 → 4 * (b + 1) ≤ firstOpen (codes xs) (codes ys)
+  pub byte-passed : openings (get_or xs b 0) (get_or ys b 0) ≡ 0 → 4 * (b + 1) ≤ first_open (codes xs) (codes ys)
   byte-passed n = omega (arith, from_byte, first-later (get_or xs b 0) (get_or ys b 0) (drop (suc b) xs) (drop (suc b) ys) n)
 
-pub bytes-ended : (xs ys : List ℕ) (b : ℕ) → length xs ≤ b → 4 * b ≤ firstOpen (codes xs) (codes ys) → 4 * b ≡ firstOpen (codes xs) (codes ys)
+pub bytes-ended : (xs ys : List ℕ) (b : ℕ) → length xs ≤ b → 4 * b ≤ first_open (codes xs) (codes ys) → 4 * b ≡ first_open (codes xs) (codes ys)
 bytes-ended xs ys b h k = omega (arith, first-most (codes xs) (codes ys), length-codes xs)

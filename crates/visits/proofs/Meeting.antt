@@ -19,26 +19,26 @@ use mathlib.Core.List.{List, [], ◌∷◌}
 use lib.ListN.{get_or, set}
 use lib.Pow.{pow_mono}
 use lib.Bits.{bit_and, bit_xor, xor_lt, and_le_l}
-use Rattle.model.specs.Cube.{Code, none, v0, v1, free, Cube, meetCode, coded, shares}
+use Rattle.model.specs.Cube.{Code, none, v0, v1, free, Cube, meet_code, coded, shares}
 use Rattle.model.specs.Walk.{piece, visit, children, in_turn, visited}
 use Rattle.model.proofs.Turns.{visit-none, visit-met, visit-passed}
 use Rattle.visits.specs.Opening.{bit}
-use Rattle.visits.specs.Words.{rowCube, cutsBelow}
+use Rattle.visits.specs.Words.{row_cube, cuts_below}
 use Rattle.visits.specs.Alive.{clash, Alive, AgainstAt, Against}
 use Rattle.visits.proofs.Digits.{below_or, digit_and, digit-xor, digit-below, digit-top}
 use Rattle.visits.proofs.WordCubes.{bit-zero}
 
 -- a free position takes a value
-value-meets : (v y : Code) → (v ≡ v0) ⊎ (v ≡ v1) → coded (meetCode v y) ≡ coded (meetCode free y) && not (clash v y)
+value-meets : (v y : Code) → (v ≡ v0) ⊎ (v ≡ v1) → coded (meet_code v y) ≡ coded (meet_code free y) && not (clash v y)
 value-meets v y s = ⊎_elim (λ (e : v ≡ v0). rw e (zero y)) (λ (e : v ≡ v1). rw e (one y)) s
   where
-    zero : (y : Code) → coded (meetCode v0 y) ≡ coded y && not (clash v0 y)
+    zero : (y : Code) → coded (meet_code v0 y) ≡ coded y && not (clash v0 y)
     zero none = refl
     zero v0 = refl
     zero v1 = refl
     zero free = refl
 
-    one : (y : Code) → coded (meetCode v1 y) ≡ coded y && not (clash v1 y)
+    one : (y : Code) → coded (meet_code v1 y) ≡ coded y && not (clash v1 y)
     one none = refl
     one v0 = refl
     one v1 = refl
@@ -60,7 +60,7 @@ child-shares [] c i v s e = let z : ◌≡◌ {A = Bool} true false = cc in absu
 child-shares (x ∷ p) [] zero v s e = refl
 child-shares (x ∷ p) [] (suc i) v s e = refl
 child-shares (x ∷ p) (y ∷ c) zero v s e = rw e (rw (value-meets v y s) (and-middle (coded y) (not (clash v y)) (shares p c)))
-child-shares (x ∷ p) (y ∷ c) (suc i) v s e = rw (child-shares p c i v s e) (and-assoc' (coded (meetCode x y)) (shares p c) (not (clash v (get_or c i none))))
+child-shares (x ∷ p) (y ∷ c) (suc i) v s e = rw (child-shares p c i v s e) (and-assoc' (coded (meet_code x y)) (shares p c) (not (clash v (get_or c i none))))
 
 -- a digit of the piece and one against the child
 less-bits : (a b : Bool) → bit_xor (bit a) (bit_and (bit a) (bit b)) ≡ bit (a && not b)
@@ -76,8 +76,8 @@ alive-child cuts n p q i v x g r a b s e eq er =
       xor_lt n x (bit_and x g) a.0 (omega (arith, a.0, and_le_l x g)),
       λ j h.
           digit-xor j x (bit_and x g)
-          ∙ rw (digit_and j x g, a.1 j h, b j h, child-shares p (rowCube cuts j) i v s e)
-          (less-bits (shares p (rowCube cuts j)) (clash v (get_or (rowCube cuts j) i none))),
+          ∙ rw (digit_and j x g, a.1 j h, b j h, child-shares p (row_cube cuts j) i v s e)
+          (less-bits (shares p (row_cube cuts j)) (clash v (get_or (row_cube cuts j) i none))),
     )
 
 -- the highest digit
@@ -93,39 +93,39 @@ bit-true true e = refl
 bit-true false e = absurd (omega arith)
 
 pub alive-meets : (cuts : List (List ℕ)) (n m : ℕ) (p : Cube) (x : ℕ) → Alive cuts n p x → 2 ^ m ≤ x → x < 2 ^ suc m → m < n
-    → shares p (rowCube cuts m) ≡ true
+    → shares p (row_cube cuts m) ≡ true
 alive-meets cuts n m p x a o u l =
     let e : x ≡ 2 ^ m + (x - 2 ^ m) = omega arith in
-    bit-true (shares p (rowCube cuts m)) (sym (a.1 m l) ∙ rw e (digit-top m (x - 2 ^ m) (alive-fewer cuts n m p x a o u l).0))
+    bit-true (shares p (row_cube cuts m)) (sym (a.1 m l) ∙ rw e (digit-top m (x - 2 ^ m) (alive-fewer cuts n m p x a o u l).0))
 
 pub alive-top : (n m x : ℕ) → x < 2 ^ n → 2 ^ m ≤ x → m < n
 alive-top n m x h o = ⊎_elim (λ l. l) (λ (l : n ≤ m). absurd (omega (arith, pow_mono l))) (below_or m n)
 
 -- a visit with the cuts of the rows that are left
 module _ (cuts : List (List ℕ)) (n : ℕ) (p : Cube) where
-  pub rows-met : shares p (rowCube cuts n) ≡ true
-      → visit (cutsBelow cuts (suc n)) p ≡ visited (in_turn (visit (cutsBelow cuts n)) (children p (rowCube cuts n)))
-  unfolding cutsBelow
-  rows-met = visit-met (rowCube cuts n) (cutsBelow cuts n) p
+  pub rows-met : shares p (row_cube cuts n) ≡ true
+      → visit (cuts_below cuts (suc n)) p ≡ visited (in_turn (visit (cuts_below cuts n)) (children p (row_cube cuts n)))
+  unfolding cuts_below
+  rows-met = visit-met (row_cube cuts n) (cuts_below cuts n) p
 
-  pub rows-passed : shares p (rowCube cuts n) ≡ false → visit (cutsBelow cuts (suc n)) p ≡ visit (cutsBelow cuts n) p
-  unfolding cutsBelow
-  rows-passed = visit-passed (rowCube cuts n) (cutsBelow cuts n) p
+  pub rows-passed : shares p (row_cube cuts n) ≡ false → visit (cuts_below cuts (suc n)) p ≡ visit (cuts_below cuts n) p
+  unfolding cuts_below
+  rows-passed = visit-passed (row_cube cuts n) (cuts_below cuts n) p
 
 -- the cuts of more weight than any digit
-pub alive-passed : (cuts : List (List ℕ)) (n m : ℕ) (p : Cube) (x : ℕ) → Alive cuts n p x → x < 2 ^ m → m ≤ n → visit (cutsBelow cuts n) p ≡ visit (cutsBelow cuts m) p
+pub alive-passed : (cuts : List (List ℕ)) (n m : ℕ) (p : Cube) (x : ℕ) → Alive cuts n p x → x < 2 ^ m → m ≤ n → visit (cuts_below cuts n) p ≡ visit (cuts_below cuts m) p
 alive-passed cuts zero m p x a h l = let e : m ≡ 0 = omega arith in rw e
 alive-passed cuts (suc n) m p x a h l =
     ⊎_elim
     (λ (k : m < suc n).
     let low : m ≤ n = omega arith in
     let b : x < 2 ^ n = omega (arith, pow_mono low) in
-    let z : shares p (rowCube cuts n) ≡ false = bit-zero (shares p (rowCube cuts n)) (sym (a.1 n (omega arith)) ∙ rw (div-eq_of_lt b)) in
+    let z : shares p (row_cube cuts n) ≡ false = bit-zero (shares p (row_cube cuts n)) (sym (a.1 n (omega arith)) ∙ rw (div-eq_of_lt b)) in
     rows-passed cuts n p z ∙ alive-passed cuts n m p x (b, λ j d. a.1 j (omega arith)) h (omega arith))
     (λ (k : suc n ≤ m). let e : m ≡ suc n = omega arith in rw e) (below_or m (suc n))
 
-pub alive-none : (cuts : List (List ℕ)) (n : ℕ) (p : Cube) (x : ℕ) → Alive cuts n p x → x ≡ 0 → visit (cutsBelow cuts n) p ≡ record { pieces = 1; survivor = piece p }
-unfolding cutsBelow
+pub alive-none : (cuts : List (List ℕ)) (n : ℕ) (p : Cube) (x : ℕ) → Alive cuts n p x → x ≡ 0 → visit (cuts_below cuts n) p ≡ record { pieces = 1; survivor = piece p }
+unfolding cuts_below
 alive-none cuts n p x a e = alive-passed cuts n 0 p x a (omega arith) (omega arith) ∙ visit-none p
 
 pub against-fewer : (cuts : List (List ℕ)) (n m : ℕ) (rows : List ℕ) → m ≤ n → Against cuts n rows → Against cuts m rows

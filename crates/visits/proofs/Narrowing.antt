@@ -19,9 +19,9 @@ use lib.Bits.{bit_and, bit_xor}
 use Rattle.model.specs.Cube.{Code, none, v0, v1, free, Cube, shares}
 use Rattle.model.specs.Walk.{opens, other, visit}
 use Rattle.format.specs.Bytes.{code_of}
-use Rattle.visits.specs.Opening.{firstOpen}
-use Rattle.visits.specs.Settle.{after, settle, leftFrom}
-use Rattle.visits.specs.Words.{placeAt, number_in, code_in, cubeOfWords, rowCube, cutsBelow, GivenWord}
+use Rattle.visits.specs.Opening.{first_open}
+use Rattle.visits.specs.Settle.{after, settle, left_from}
+use Rattle.visits.specs.Words.{place_at, number_in, code_in, cube_of_words, row_cube, cuts_below, GivenWord}
 use Rattle.visits.specs.Alive.{Alive, Against}
 use Rattle.visits.specs.Replies.{tells, survives}
 use Rattle.visits.specs.declared.allowance.Allowance.{Allowance}
@@ -58,18 +58,18 @@ value-number (suc (suc zero)) h k = inr refl
 value-number (suc (suc (suc y))) h k = absurd (omega arith)
 
 pub record Opened (near cut : List ℕ) (i y : ℕ) : Type 0 where
-  pub place : placeAt (get_or near (i / 32) 0) (i % 32) ≡ 3
-  pub unfixed : get_or (cubeOfWords near) i none ≡ free
+  pub place : place_at (get_or near (i / 32) 0) (i % 32) ≡ 3
+  pub unfixed : get_or (cube_of_words near) i none ≡ free
   pub least : 1 ≤ y
   pub most : y ≤ 2
-  pub fixed : code_of y ≡ get_or (cubeOfWords cut) i none
+  pub fixed : code_of y ≡ get_or (cube_of_words cut) i none
   pub turned : code_of (3 - y) ≡ other (code_of y)
 
-pub opened : (near cut : List ℕ) (i y : ℕ) → i ≡ firstOpen (cubeOfWords near) (cubeOfWords cut) → i < 320 → y ≡ number_in cut i
+pub opened : (near cut : List ℕ) (i y : ℕ) → i ≡ first_open (cube_of_words near) (cube_of_words cut) → i < 320 → y ≡ number_in cut i
     → Opened near cut i y
 unfolding number_in
 opened near cut i y f h e =
-    let o = first-opens (cubeOfWords near) (cubeOfWords cut) (words-length near ∙ sym (words-length cut)) (omega (arith, words-length near)) in
+    let o = first-opens (cube_of_words near) (cube_of_words cut) (words-length near ∙ sym (words-length cut)) (omega (arith, words-length near)) in
     let b : opens (code_in near i) (code_in cut i) ≡ true = rw (← f, words-at near i h, words-at cut i h) at o in
     let n = opens-numbers (number_in near i) (number_in cut i) (mod-lt _ (lit< tt)) (mod-lt _ (lit< tt)) b in
     record {
@@ -83,27 +83,27 @@ opened near cut i y f h e =
 
 -- the position takes the value v
 module _ (near : List ℕ) (i v word : ℕ) (l : length near ≡ 10) (h : i < 320) (g : GivenWord (get_or near (i / 32) 0) (i % 32) v word) where
-  pub took-cube : cubeOfWords (set near (i / 32) word) ≡ set (cubeOfWords near) i (code_of v)
+  pub took-cube : cube_of_words (set near (i / 32) word) ≡ set (cube_of_words near) i (code_of v)
   took-cube = words-given near i v word l h g
 
-  pub took-alive : (cuts : List (List ℕ)) (n : ℕ) (against : List ℕ) (met r : ℕ) → get_or (cubeOfWords near) i none ≡ free → 1 ≤ v → v ≤ 2
-      → Alive cuts n (cubeOfWords near) met
-      → Against cuts n against → r ≡ bit_xor met (bit_and met (get_or against (2 * i + (v - 1)) 0)) → Alive cuts n (cubeOfWords (set near (i / 32) word)) r
+  pub took-alive : (cuts : List (List ℕ)) (n : ℕ) (against : List ℕ) (met r : ℕ) → get_or (cube_of_words near) i none ≡ free → 1 ≤ v → v ≤ 2
+      → Alive cuts n (cube_of_words near) met
+      → Against cuts n against → r ≡ bit_xor met (bit_and met (get_or against (2 * i + (v - 1)) 0)) → Alive cuts n (cube_of_words (set near (i / 32) word)) r
   took-alive cuts n against met r o a b m t e =
       let s : suc (v - 1) ≡ v = omega arith in
-      alive-child cuts n (cubeOfWords near) (cubeOfWords (set near (i / 32) word)) i (code_of v) met (get_or against (2 * i + (v - 1)) 0) r m
+      alive-child cuts n (cube_of_words near) (cube_of_words (set near (i / 32) word)) i (code_of v) met (get_or against (2 * i + (v - 1)) 0) r m
       (rw s at (t i (v - 1) h (omega arith))) (value-number v a b) o took-cube e
 
-pub later_first : (near cut : List ℕ) (i : ℕ) (y : Code) (p : Cube) → i ≡ firstOpen (cubeOfWords near) (cubeOfWords cut) → i < 320
-    → y ≡ get_or (cubeOfWords cut) i none → p ≡ set (cubeOfWords near) i y
-    → i < firstOpen p (cubeOfWords cut)
+pub later_first : (near cut : List ℕ) (i : ℕ) (y : Code) (p : Cube) → i ≡ first_open (cube_of_words near) (cube_of_words cut) → i < 320
+    → y ≡ get_or (cube_of_words cut) i none → p ≡ set (cube_of_words near) i y
+    → i < first_open p (cube_of_words cut)
 later_first near cut i y p f h e c =
     rw (c, e)
-    (rw (← f) at (first-after (cubeOfWords near) (cubeOfWords cut) (words-length near ∙ sym (words-length cut)) (omega (arith, words-length near))))
+    (rw (← f) at (first-after (cube_of_words near) (cube_of_words cut) (words-length near ∙ sym (words-length cut)) (omega (arith, words-length near))))
 
-pub begun : (cuts : List (List ℕ)) (n : ℕ) (p : Cube) (a b : Allowance) → 0 < a.left → b ≡ after a 1 → shares p (rowCube cuts n) ≡ true
-    → settle a (visit (cutsBelow cuts (suc n)) p) ≡ leftFrom (visit (cutsBelow cuts n)) (rowCube cuts n) b p
-unfolding leftFrom
+pub begun : (cuts : List (List ℕ)) (n : ℕ) (p : Cube) (a b : Allowance) → 0 < a.left → b ≡ after a 1 → shares p (row_cube cuts n) ≡ true
+    → settle a (visit (cuts_below cuts (suc n)) p) ≡ left_from (visit (cuts_below cuts n)) (row_cube cuts n) b p
+unfolding left_from
 begun cuts n p a b h e m = rw (rows-met cuts n p m, e) (settle-on a 1 _ h)
 
 pub survives-stops : (a : Allowance) (p : Cube) → (settle a (survives p)).verdict ≡ Covered → ⊥

@@ -14,27 +14,27 @@ use mathlib.Core.List.{[], ◌∷◌, map}
 use lib.ListN.{length, get_or, drop, set}
 use Rattle.model.specs.Cube.{Code, none, v0, v1, free, Cube}
 use Rattle.model.specs.Walk.{opens, other, children}
-use Rattle.visits.specs.Opening.{firstOpen}
+use Rattle.visits.specs.Opening.{first_open}
 
-pub first-most : (p c : Cube) → firstOpen p c ≤ length p
-unfolding firstOpen
+pub first-most : (p c : Cube) → first_open p c ≤ length p
+unfolding first_open
 first-most [] c = omega arith
 first-most (x ∷ p) [] = omega arith
 first-most (x ∷ p) (y ∷ c) = go (opens x y) (first-most p c)
   where
-    go : (b : Bool) → firstOpen p c ≤ length p → cond b 0 (suc (firstOpen p c)) ≤ suc (length p)
+    go : (b : Bool) → first_open p c ≤ length p → cond b 0 (suc (first_open p c)) ≤ suc (length p)
     go true h = omega arith
     go false h = omega arith
 
-pub first-opens : (p c : Cube) → length p ≡ length c → firstOpen p c < length p → opens (get_or p (firstOpen p c) none) (get_or c (firstOpen p c) none) ≡ true
-unfolding firstOpen
+pub first-opens : (p c : Cube) → length p ≡ length c → first_open p c < length p → opens (get_or p (first_open p c) none) (get_or c (first_open p c) none) ≡ true
+unfolding first_open
 first-opens [] c e h = absurd (omega arith)
 first-opens (x ∷ p) [] e h = absurd (omega arith)
 first-opens (x ∷ p) (y ∷ c) e h = go (opens x y) refl h (first-opens p c (omega arith))
   where
-    go : (b : Bool) → opens x y ≡ b → cond b 0 (suc (firstOpen p c)) < suc (length p)
-        → (firstOpen p c < length p → opens (get_or p (firstOpen p c) none) (get_or c (firstOpen p c) none) ≡ true)
-        → opens (get_or (x ∷ p) (cond b 0 (suc (firstOpen p c))) none) (get_or (y ∷ c) (cond b 0 (suc (firstOpen p c))) none) ≡ true
+    go : (b : Bool) → opens x y ≡ b → cond b 0 (suc (first_open p c)) < suc (length p)
+        → (first_open p c < length p → opens (get_or p (first_open p c) none) (get_or c (first_open p c) none) ≡ true)
+        → opens (get_or (x ∷ p) (cond b 0 (suc (first_open p c))) none) (get_or (y ∷ c) (cond b 0 (suc (first_open p c))) none) ≡ true
     go true q h ih = q
     go false q h ih = ih (omega arith)
 
@@ -48,48 +48,48 @@ agreed free = refl
 abbrev Split : Cube → Cube → ℕ → Type 0
 Split p c i = children p c ≡ set p i (other (get_or c i none)) ∷ children (set p i (get_or c i none)) c
 
-pub children-first : (p c : Cube) → length p ≡ length c → firstOpen p c < length p → Split p c (firstOpen p c)
-unfolding firstOpen
+pub children-first : (p c : Cube) → length p ≡ length c → first_open p c < length p → Split p c (first_open p c)
+unfolding first_open
 children-first [] c e h = absurd (omega arith)
 children-first (x ∷ p) [] e h = absurd (omega arith)
 children-first (x ∷ p) (y ∷ c) e h = go (opens x y) refl h (children-first p c (omega arith))
   where
-    go : (b : Bool) → opens x y ≡ b → cond b 0 (suc (firstOpen p c)) < suc (length p) → (firstOpen p c < length p → Split p c (firstOpen p c))
-        → Split (x ∷ p) (y ∷ c) (cond b 0 (suc (firstOpen p c)))
+    go : (b : Bool) → opens x y ≡ b → cond b 0 (suc (first_open p c)) < suc (length p) → (first_open p c < length p → Split p c (first_open p c))
+        → Split (x ∷ p) (y ∷ c) (cond b 0 (suc (first_open p c)))
     go true q h ih = rw (q, agreed y)
     go false q h ih = rw (q) (ap (map (λ q. x ∷ q)) (ih (omega arith)))
 
-pub children-none : (p c : Cube) → length p ≡ length c → length p ≤ firstOpen p c → children p c ≡ []
-unfolding firstOpen
+pub children-none : (p c : Cube) → length p ≡ length c → length p ≤ first_open p c → children p c ≡ []
+unfolding first_open
 children-none [] c e h = refl
 children-none (x ∷ p) [] e h = refl
 children-none (x ∷ p) (y ∷ c) e h = go (opens x y) h (children-none p c (omega arith))
   where
-    go : (b : Bool) → suc (length p) ≤ cond b 0 (suc (firstOpen p c)) → (length p ≤ firstOpen p c → children p c ≡ [])
+    go : (b : Bool) → suc (length p) ≤ cond b 0 (suc (first_open p c)) → (length p ≤ first_open p c → children p c ≡ [])
         → cond b ((other y ∷ p) ∷ map (λ q. y ∷ q) (children p c)) (map (λ q. x ∷ q) (children p c)) ≡ []
     go true h ih = absurd (omega arith)
     go false h ih = rw (ih (omega arith))
 
-pub first-drop : (m : ℕ) (p c : Cube) → length p ≡ length c → m ≤ firstOpen p c → firstOpen p c ≡ m + firstOpen (drop m p) (drop m c)
-unfolding firstOpen
+pub first-drop : (m : ℕ) (p c : Cube) → length p ≡ length c → m ≤ first_open p c → first_open p c ≡ m + first_open (drop m p) (drop m c)
+unfolding first_open
 first-drop zero p c e h = rw zero-add
 first-drop (suc m) [] c e h = absurd (omega arith)
 first-drop (suc m) (x ∷ p) [] e h = absurd (omega arith)
 first-drop (suc m) (x ∷ p) (y ∷ c) e h = go (opens x y) h (first-drop m p c (omega arith))
   where
-    go : (b : Bool) → suc m ≤ cond b 0 (suc (firstOpen p c)) → (m ≤ firstOpen p c → firstOpen p c ≡ m + firstOpen (drop m p) (drop m c))
-        → cond b 0 (suc (firstOpen p c)) ≡ suc m + firstOpen (drop m p) (drop m c)
+    go : (b : Bool) → suc m ≤ cond b 0 (suc (first_open p c)) → (m ≤ first_open p c → first_open p c ≡ m + first_open (drop m p) (drop m c))
+        → cond b 0 (suc (first_open p c)) ≡ suc m + first_open (drop m p) (drop m c)
     go true h ih = absurd (omega arith)
     go false h ih = omega (arith, ih (omega arith))
 
-pub first-after : (p c : Cube) → length p ≡ length c → firstOpen p c < length p → firstOpen p c < firstOpen (set p (firstOpen p c) (get_or c (firstOpen p c) none)) c
-unfolding firstOpen
+pub first-after : (p c : Cube) → length p ≡ length c → first_open p c < length p → first_open p c < first_open (set p (first_open p c) (get_or c (first_open p c) none)) c
+unfolding first_open
 first-after [] c e h = absurd (omega arith)
 first-after (x ∷ p) [] e h = absurd (omega arith)
 first-after (x ∷ p) (y ∷ c) e h = go (opens x y) refl h (first-after p c (omega arith))
   where
-    go : (b : Bool) → opens x y ≡ b → cond b 0 (suc (firstOpen p c)) < suc (length p)
-        → (firstOpen p c < length p → firstOpen p c < firstOpen (set p (firstOpen p c) (get_or c (firstOpen p c) none)) c)
-        → cond b 0 (suc (firstOpen p c)) < firstOpen (set (x ∷ p) (cond b 0 (suc (firstOpen p c))) (get_or (y ∷ c) (cond b 0 (suc (firstOpen p c))) none)) (y ∷ c)
+    go : (b : Bool) → opens x y ≡ b → cond b 0 (suc (first_open p c)) < suc (length p)
+        → (first_open p c < length p → first_open p c < first_open (set p (first_open p c) (get_or c (first_open p c) none)) c)
+        → cond b 0 (suc (first_open p c)) < first_open (set (x ∷ p) (cond b 0 (suc (first_open p c))) (get_or (y ∷ c) (cond b 0 (suc (first_open p c))) none)) (y ∷ c)
     go true q h ih = rw (agreed y) (omega arith)
     go false q h ih = rw q (omega (arith, ih (omega arith)))

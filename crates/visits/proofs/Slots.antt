@@ -23,14 +23,14 @@ use lib.Seq.{get_or-set_same, get_or-set_other}
 use lib.Count.{leading_length}
 use lib.Pow.{pow_pos, pow_mono}
 use lib.Bits.{bit_and, bit_or, bit_xor}
-use Rattle.model.specs.Cube.{Code, none, v0, v1, free, Cube, meetCode, coded, shares}
+use Rattle.model.specs.Cube.{Code, none, v0, v1, free, Cube, meet_code, coded, shares}
 use Rattle.model.specs.Walk.{opens, visit}
-use Rattle.model.specs.Alike.{opensAll, Alike}
+use Rattle.model.specs.Alike.{opens_all, Alike}
 use Rattle.model.proofs.Bools.{and_left, and_right}
 use Rattle.model.proofs.Alike.{walk-alike}
-use Rattle.format.specs.Bytes.{code_of, isFree}
-use Rattle.visits.specs.Opening.{bit, isFixed}
-use Rattle.visits.specs.Words.{placeAt, number_in, code_in, cubeOfWords, rowCube, cutsBelow, eitherCode}
+use Rattle.format.specs.Bytes.{code_of, is_free}
+use Rattle.visits.specs.Opening.{bit, is_fixed}
+use Rattle.visits.specs.Words.{place_at, number_in, code_in, cube_of_words, row_cube, cuts_below, either_code}
 use Rattle.visits.specs.Alive.{digit, Alive}
 use Rattle.visits.specs.Memory.{Finds, LikeSlot, Remembers, Memory, Recalls, Keeps, Lies, Common, Slot}
 use Rattle.visits.proofs.Digits.{same_or_not, below_or, or-none, xor-none, place-and, place-or, digit-below}
@@ -38,15 +38,15 @@ use Rattle.visits.proofs.WordCubes.{words-length, words-at, row-length}
 use Rattle.visits.proofs.Meeting.{alive-passed, pow-double}
 use Rattle.cube.proofs.Codes.{below4, four-and}
 
-pub code-or : (a b : ℕ) → a < 4 → b < 4 → code_of (bit_or a b) ≡ eitherCode (code_of a) (code_of b)
+pub code-or : (a b : ℕ) → a < 4 → b < 4 → code_of (bit_or a b) ≡ either_code (code_of a) (code_of b)
 code-or a b h k =
-    below4 (λ (a : ℕ). code_of (bit_or a b) ≡ eitherCode (code_of a) (code_of b)) refl
-    (below4 (λ (b : ℕ). code_of (bit_or 1 b) ≡ eitherCode v0 (code_of b)) refl refl refl refl b k)
-    (below4 (λ (b : ℕ). code_of (bit_or 2 b) ≡ eitherCode v1 (code_of b)) refl refl refl refl b k)
-    (below4 (λ (b : ℕ). code_of (bit_or 3 b) ≡ eitherCode free (code_of b)) refl refl refl refl b k) a h
+    below4 (λ (a : ℕ). code_of (bit_or a b) ≡ either_code (code_of a) (code_of b)) refl
+    (below4 (λ (b : ℕ). code_of (bit_or 1 b) ≡ either_code v0 (code_of b)) refl refl refl refl b k)
+    (below4 (λ (b : ℕ). code_of (bit_or 2 b) ≡ either_code v1 (code_of b)) refl refl refl refl b k)
+    (below4 (λ (b : ℕ). code_of (bit_or 3 b) ≡ either_code free (code_of b)) refl refl refl refl b k) a h
 
 -- the code x of a piece is free or the cut's value y, and n lies in y: then whether x is free is seen in what x or n admits
-open-either : (x y n : Code) → coded (meetCode x y) ≡ true → meetCode n y ≡ n → opens x y ≡ isFixed y && isFree (eitherCode x n)
+open-either : (x y n : Code) → coded (meet_code x y) ≡ true → meet_code n y ≡ n → opens x y ≡ is_fixed y && is_free (either_code x n)
 open-either none none n c e = refl
 open-either v0 none n c e = refl
 open-either v1 none n c e = refl
@@ -64,20 +64,20 @@ open-either free v1 n c e = refl
 open-either v0 v0 none c e = refl
 open-either v0 v0 v0 c e = refl
 open-either v0 v0 v1 c e = absurd (false≢true (ap coded e))
-open-either v0 v0 free c e = let z = ap isFree e in absurd (false≢true z)
+open-either v0 v0 free c e = let z = ap is_free e in absurd (false≢true z)
 open-either v1 v1 none c e = refl
 open-either v1 v1 v0 c e = absurd (false≢true (ap coded e))
 open-either v1 v1 v1 c e = refl
-open-either v1 v1 free c e = let z = ap isFree e in absurd (false≢true z)
+open-either v1 v1 free c e = let z = ap is_free e in absurd (false≢true z)
 
-shares_at : (p c : Cube) (i : ℕ) → shares p c ≡ true → i < length p → coded (meetCode (get_or p i none) (get_or c i none)) ≡ true
+shares_at : (p c : Cube) (i : ℕ) → shares p c ≡ true → i < length p → coded (meet_code (get_or p i none) (get_or c i none)) ≡ true
 shares_at [] c i e h = absurd (omega arith)
 shares_at (x ∷ p) [] i e h = absurd (false≢true e)
-shares_at (x ∷ p) (y ∷ c) zero e h = and_left (coded (meetCode x y)) (shares p c) e
-shares_at (x ∷ p) (y ∷ c) (suc i) e h = shares_at p c i (and_right (coded (meetCode x y)) (shares p c) e) (omega arith)
+shares_at (x ∷ p) (y ∷ c) zero e h = and_left (coded (meet_code x y)) (shares p c) e
+shares_at (x ∷ p) (y ∷ c) (suc i) e h = shares_at p c i (and_right (coded (meet_code x y)) (shares p c) e) (omega arith)
 
 opens-ext : (p q c : Cube) → length p ≡ length c → length q ≡ length c
-    → ((i : ℕ) → i < length c → opens (get_or p i none) (get_or c i none) ≡ opens (get_or q i none) (get_or c i none)) → opensAll p c ≡ opensAll q c
+    → ((i : ℕ) → i < length c → opens (get_or p i none) (get_or c i none) ≡ opens (get_or q i none) (get_or c i none)) → opens_all p c ≡ opens_all q c
 opens-ext [] [] c e f t = refl
 opens-ext [] (y ∷ q) c e f t = absurd (omega arith)
 opens-ext (x ∷ p) [] c e f t = absurd (omega arith)
@@ -85,8 +85,8 @@ opens-ext (x ∷ p) (y ∷ q) [] e f t = absurd (omega arith)
 opens-ext (x ∷ p) (y ∷ q) (z ∷ c) e f t = ap₂ (λ (b : Bool) (bs : List Bool). b ∷ bs) (t 0 (omega arith)) (opens-ext p q c (omega arith) (omega arith) (λ i h. t (suc i) (omega arith)))
 
 module _ (cuts : List (List ℕ)) (p q : Cube) (n : ℕ → Code) (lp : length p ≡ 320) (lq : length q ≡ 320)
-    (like : (i : ℕ) → i < 320 → eitherCode (get_or p i none) (n i) ≡ eitherCode (get_or q i none) (n i)) where
-  opens-like : (c : Cube) → length c ≡ 320 → shares p c ≡ true → shares q c ≡ true → ((i : ℕ) → i < 320 → meetCode (n i) (get_or c i none) ≡ n i) → opensAll p c ≡ opensAll q c
+    (like : (i : ℕ) → i < 320 → either_code (get_or p i none) (n i) ≡ either_code (get_or q i none) (n i)) where
+  opens-like : (c : Cube) → length c ≡ 320 → shares p c ≡ true → shares q c ≡ true → ((i : ℕ) → i < 320 → meet_code (n i) (get_or c i none) ≡ n i) → opens_all p c ≡ opens_all q c
   opens-like c lc e f u =
       opens-ext p q c (omega arith) (omega arith)
       (λ i h.
@@ -94,14 +94,14 @@ module _ (cuts : List (List ℕ)) (p q : Cube) (n : ℕ → Code) (lp : length p
       open-either (get_or p i none) (get_or c i none) (n i) (shares_at p c i e (omega arith)) (u i k)
       ∙ rw (like i k) (sym (open-either (get_or q i none) (get_or c i none) (n i) (shares_at q c i f (omega arith)) (u i k))))
 
-  pub alike-below : (t : ℕ) → ((j : ℕ) → j < t → shares p (rowCube cuts j) ≡ shares q (rowCube cuts j))
-      → ((j : ℕ) → j < t → shares p (rowCube cuts j) ≡ true → (i : ℕ) → i < 320 → meetCode (n i) (get_or (rowCube cuts j) i none) ≡ n i)
-      → Alike (cutsBelow cuts t) p q
-  unfolding cutsBelow
+  pub alike-below : (t : ℕ) → ((j : ℕ) → j < t → shares p (row_cube cuts j) ≡ shares q (row_cube cuts j))
+      → ((j : ℕ) → j < t → shares p (row_cube cuts j) ≡ true → (i : ℕ) → i < 320 → meet_code (n i) (get_or (row_cube cuts j) i none) ≡ n i)
+      → Alike (cuts_below cuts t) p q
+  unfolding cuts_below
   alike-below zero s u = tt
   alike-below (suc t) s u = (
     s t (omega arith),
-    λ e. opens-like (rowCube cuts t) (row-length cuts t) e (sym (s t (omega arith)) ∙ e) (u t (omega arith) e),
+    λ e. opens-like (row_cube cuts t) (row-length cuts t) e (sym (s t (omega arith)) ∙ e) (u t (omega arith) e),
     alike-below t (λ j h. s j (omega arith)) (λ j h. u j (omega arith)),
   )
 
@@ -134,9 +134,9 @@ length-of x h =
 
 module _ (cuts : List (List ℕ)) (slot ws : List ℕ) (alive count m : ℕ) (small : alive < 2 ^ 64)
     (ea : get_or slot 20 0 ≡ alive) (ec : get_or slot 21 0 ≡ count)
-    (own : (i : ℕ) → i < 320 → code_in slot i ≡ eitherCode (code_in ws i) (code_in slot (320 + i)))
-    (low : (j : ℕ) → j < 64 → digit j alive ≡ 1 → (i : ℕ) → i < 320 → meetCode (code_in slot (320 + i)) (get_or (rowCube cuts j) i none) ≡ code_in slot (320 + i))
-    (met : Alive cuts m (cubeOfWords ws) alive) (found : Finds count (visit (cutsBelow cuts m) (cubeOfWords ws))) where
+    (own : (i : ℕ) → i < 320 → code_in slot i ≡ either_code (code_in ws i) (code_in slot (320 + i)))
+    (low : (j : ℕ) → j < 64 → digit j alive ≡ 1 → (i : ℕ) → i < 320 → meet_code (code_in slot (320 + i)) (get_or (row_cube cuts j) i none) ≡ code_in slot (320 + i))
+    (met : Alive cuts m (cube_of_words ws) alive) (found : Finds count (visit (cuts_below cuts m) (cube_of_words ws))) where
   pub remembers-right : Remembers cuts slot
   unfolding Remembers
   remembers-right pos n p lp a f =
@@ -146,25 +146,25 @@ module _ (cuts : List (List ℕ)) (slot ws : List ℕ) (alive count m : ℕ) (sm
       let tn = l.1.fewest n b.0 in
       let tm = l.1.fewest m met.0 in
       let ts = l.1.fewest 64 small in
-      let like = alike-below cuts p (cubeOfWords ws) (λ i. code_in slot (320 + i)) lp (words-length ws) (λ i h. f i h ∙ own i h ∙ rw (words-at ws i h)) t
-      (λ j h. bit-same (shares p (rowCube cuts j)) (shares (cubeOfWords ws) (rowCube cuts j)) (sym (b.1 j (omega arith)) ∙ met.1 j (omega arith)))
-      (λ j h e. low j (omega arith) (b.1 j (omega arith) ∙ bit-of (shares p (rowCube cuts j)) e)) in
+      let like = alike-below cuts p (cube_of_words ws) (λ i. code_in slot (320 + i)) lp (words-length ws) (λ i h. f i h ∙ own i h ∙ rw (words-at ws i h)) t
+      (λ j h. bit-same (shares p (row_cube cuts j)) (shares (cube_of_words ws) (row_cube cuts j)) (sym (b.1 j (omega arith)) ∙ met.1 j (omega arith)))
+      (λ j h e. low j (omega arith) (b.1 j (omega arith) ∙ bit-of (shares p (row_cube cuts j)) e)) in
       rw (ec, alive-passed cuts n t p alive b l.1.under tn)
-      (finds-alike (cutsBelow cuts t) p (cubeOfWords ws) count like (rw (alive-passed cuts m t (cubeOfWords ws) alive met l.1.under tm) at found))
+      (finds-alike (cuts_below cuts t) p (cube_of_words ws) count like (rw (alive-passed cuts m t (cube_of_words ws) alive met l.1.under tm) at found))
 
 -- words
-second : (slot : List ℕ) (i : ℕ) → number_in slot (320 + i) ≡ placeAt (get_or slot (10 + i / 32) 0) (i % 32)
+second : (slot : List ℕ) (i : ℕ) → number_in slot (320 + i) ≡ place_at (get_or slot (10 + i / 32) 0) (i % 32)
 unfolding number_in
 second slot i =
     let q : (320 + i) / 32 ≡ 10 + i / 32 = omega arith in
     let r : (320 + i) % 32 ≡ i % 32 = omega arith in
     rw (q, r)
 
-either-words : (x y z k : ℕ) → bit_or x y ≡ z → eitherCode (code_of (placeAt x k)) (code_of (placeAt y k)) ≡ code_of (placeAt z k)
-either-words x y z k e = rw (← e) (sym (ap code_of (place-or k x y) ∙ code-or (placeAt x k) (placeAt y k) (mod-lt _ (lit< tt)) (mod-lt _ (lit< tt))))
+either-words : (x y z k : ℕ) → bit_or x y ≡ z → either_code (code_of (place_at x k)) (code_of (place_at y k)) ≡ code_of (place_at z k)
+either-words x y z k e = rw (← e) (sym (ap code_of (place-or k x y) ∙ code-or (place_at x k) (place_at y k) (mod-lt _ (lit< tt)) (mod-lt _ (lit< tt))))
 
 pub like-words : (slot ws : List ℕ) → ((w : ℕ) → w < 10 → bit_or (get_or ws w 0) (get_or slot (10 + w) 0) ≡ get_or slot w 0)
-    → LikeSlot slot (cubeOfWords ws)
+    → LikeSlot slot (cube_of_words ws)
 unfolding number_in
 like-words slot ws h i l =
     rw (words-at ws i l, second slot i)
@@ -173,7 +173,7 @@ like-words slot ws h i l =
 pub recalls-right : (slots : List (List ℕ)) (ws : List ℕ) (alive e : ℕ) → e < length slots → get_or (get_or slots e []) 20 0 ≡ alive
     → ((w : ℕ) → w < 10 → bit_or (get_or ws w 0) (get_or (get_or slots e []) (10 + w) 0) ≡ get_or (get_or slots e []) w 0) → Recalls slots ws alive (get_or (get_or slots e []) 21 0)
 unfolding Remembers
-recalls-right slots ws alive e h ea f pos cuts mem n a = mem e h pos n (cubeOfWords ws) (words-length ws) (rw ea a) (like-words (get_or slots e []) ws f)
+recalls-right slots ws alive e h ea f pos cuts mem n a = mem e h pos n (cube_of_words ws) (words-length ws) (rw ea a) (like-words (get_or slots e []) ws f)
 
 -- slots
 pub memory-set : (cuts slots : List (List ℕ)) (e : ℕ) (slot : List ℕ) → Memory cuts slots → Remembers cuts slot → Memory cuts (set slots e slot)
@@ -216,7 +216,7 @@ met-turn a₀ b a w done left = (now, then)
     then v h = get_or-set_other a w v x 0 (λ (q : v ≡ w). omega arith) ∙ left v (omega arith)
 
 -- words that lie in cuts
-within-again : (a y : Code) → meetCode (meetCode a y) y ≡ meetCode a y
+within-again : (a y : Code) → meet_code (meet_code a y) y ≡ meet_code a y
 within-again none y = refl
 within-again v0 none = refl
 within-again v0 v0 = refl
@@ -231,7 +231,7 @@ within-again free v0 = refl
 within-again free v1 = refl
 within-again free free = refl
 
-meet-swap : (a c y : Code) → meetCode (meetCode a c) y ≡ meetCode (meetCode a y) c
+meet-swap : (a c y : Code) → meet_code (meet_code a c) y ≡ meet_code (meet_code a y) c
 meet-swap none c y = refl
 meet-swap v0 none none = refl
 meet-swap v0 none v0 = refl
@@ -283,30 +283,30 @@ meet-swap free free v1 = refl
 meet-swap free free free = refl
 
 module _ (m m' b : List ℕ) (e : (w : ℕ) → w < 10 → get_or m' w 0 ≡ bit_and (get_or m w 0) (get_or b w 0)) where
-  met-code : (i : ℕ) → i < 320 → code_in m' i ≡ meetCode (code_in m i) (code_in b i)
+  met-code : (i : ℕ) → i < 320 → code_in m' i ≡ meet_code (code_in m i) (code_in b i)
   unfolding number_in
   met-code i h =
       rw (e (i / 32) (omega arith), place-and (i % 32) (get_or m (i / 32) 0) (get_or b (i / 32) 0))
-      (four-and (placeAt (get_or m (i / 32) 0) (i % 32)) (placeAt (get_or b (i / 32) 0) (i % 32)) (mod-lt _ (lit< tt)) (mod-lt _ (lit< tt)))
+      (four-and (place_at (get_or m (i / 32) 0) (i % 32)) (place_at (get_or b (i / 32) 0) (i % 32)) (mod-lt _ (lit< tt)) (mod-lt _ (lit< tt)))
 
   lies_more : (c : Cube) → Lies m c → Lies m' c
   lies_more c l i h = rw (met-code i h) (meet-swap (code_in m i) (code_in b i) (get_or c i none) ∙ rw (l i h))
 
-  lies_in : Lies m' (cubeOfWords b)
+  lies_in : Lies m' (cube_of_words b)
   lies_in i h = rw (met-code i h, words-at b i h) (within-again (code_in m i) (code_in b i))
 
 pub common-turn : (cuts : List (List ℕ)) (alive x y t : ℕ) (m m' : List ℕ) → x < 2 ^ suc t → 2 ^ t ≤ x → y ≡ x - 2 ^ t
     → ((w : ℕ) → w < 10 → get_or m' w 0 ≡ bit_and (get_or m w 0) (get_or (get_or cuts t []) w 0))
-    → ((j : ℕ) → j < 64 → digit j alive ≡ 1 → (digit j x ≡ 1) ⊎ Lies m (rowCube cuts j)) → (j : ℕ) → j < 64 → digit j alive ≡ 1
-    → (digit j y ≡ 1) ⊎ Lies m' (rowCube cuts j)
-unfolding rowCube
+    → ((j : ℕ) → j < 64 → digit j alive ≡ 1 → (digit j x ≡ 1) ⊎ Lies m (row_cube cuts j)) → (j : ℕ) → j < 64 → digit j alive ≡ 1
+    → (digit j y ≡ 1) ⊎ Lies m' (row_cube cuts j)
+unfolding row_cube
 common-turn cuts alive x y t m m' u o ey e f j h d =
-    ⊎_elim (λ (k : digit j x ≡ 1). still k) (λ l. inr (lies_more m m' (get_or cuts t []) e (rowCube cuts j) l)) (f j h d)
+    ⊎_elim (λ (k : digit j x ≡ 1). still k) (λ l. inr (lies_more m m' (get_or cuts t []) e (row_cube cuts j) l)) (f j h d)
   where
-    here : digit j x ≡ 1 → j ≡ t → (digit j y ≡ 1) ⊎ Lies m' (rowCube cuts j)
+    here : digit j x ≡ 1 → j ≡ t → (digit j y ≡ 1) ⊎ Lies m' (row_cube cuts j)
     here k q = inr (rw q (lies_in m m' (get_or cuts t []) e))
 
-    still : digit j x ≡ 1 → (digit j y ≡ 1) ⊎ Lies m' (rowCube cuts j)
+    still : digit j x ≡ 1 → (digit j y ≡ 1) ⊎ Lies m' (row_cube cuts j)
     still k =
         ⊎_elim (here k)
         (λ (q : j ≡ t → ⊥).
@@ -316,7 +316,7 @@ common-turn cuts alive x y t m m' u o ey e f j h d =
         (same_or_not j t)
 
 pub common-end : (cuts : List (List ℕ)) (alive x : ℕ) (m : List ℕ) → x ≡ 0
-    → ((j : ℕ) → j < 64 → digit j alive ≡ 1 → (digit j x ≡ 1) ⊎ Lies m (rowCube cuts j))
+    → ((j : ℕ) → j < 64 → digit j alive ≡ 1 → (digit j x ≡ 1) ⊎ Lies m (row_cube cuts j))
     → Common cuts alive m
 common-end cuts alive x m z f j h d =
     ⊎_elim (λ (k : digit j x ≡ 1). absurd (omega (arith, (rw (z, div-eq_of_lt (pow_pos j)) at k)))) (λ l. l) (f j h d)

@@ -14,10 +14,10 @@ use denote.Enum.Declared.{tag_of}
 use lib.ListN.{length, get_or, set}
 use Rattle.model.specs.Cube.{Code, none, Cube}
 use Rattle.model.specs.Walk.{Found, piece, other, in_turn, next, children, visit}
-use Rattle.cube.specs.Whole.{whole_at, wholesAt}
+use Rattle.cube.specs.Whole.{whole_at, wholes_at}
 use Rattle.visits.specs.Cuts.{Skipped}
-use Rattle.visits.specs.Opening.{firstOpen}
-use Rattle.visits.specs.Settle.{Said, after, settle, leftFrom}
+use Rattle.visits.specs.Opening.{first_open}
+use Rattle.visits.specs.Settle.{Said, after, settle, left_from}
 use Rattle.visits.specs.declared.allowance.Allowance.{Allowance}
 use Rattle.visits.specs.declared.allowance.Verdict.{Verdict}
 use Rattle.visits.specs.declared.allowance.Verdict.TheVariants.{Covered, Survives, Undecided}
@@ -32,34 +32,34 @@ module _ (q : ℕ) (s : List ℕ) (p : Cube) (at n to m : ℕ) (a b : Allowance)
   begin-sum = omega (arith, ap (λ (x : Allowance). x.left) paid, ap (λ (x : Allowance). x.spent) paid)
 
   -- no cut is left
-  pub begin-survives : m ≡ 0 → record { allowance = b; verdict = Survives; piece = p } ≡ settle a (visit (wholesAt q s at n) p)
+  pub begin-survives : m ≡ 0 → record { allowance = b; verdict = Survives; piece = p } ≡ settle a (visit (wholes_at q s at n) p)
   begin-survives z = rw (k.same, cuts-none q s p to m z, settle-le a (record { pieces = 1; survivor = piece p }) pays, paid)
 
   -- a cut is left, and meets the piece
-  pub begin-split : (f : ℕ) → m ≡ suc f → settle a (visit (wholesAt q s at n) p) ≡ leftFrom (visit (wholesAt q s (to + q) f)) (whole_at q s to) b p
-  unfolding leftFrom
+  pub begin-split : (f : ℕ) → m ≡ suc f → settle a (visit (wholes_at q s at n) p) ≡ left_from (visit (wholes_at q s (to + q) f)) (whole_at q s to) b p
+  unfolding left_from
   begin-split f e = rw (k.same, cuts-met q s p to m f e (k.meeting (omega arith)), paid) (settle-on a 1 _ pays)
 
 module _ (f : Cube → Found) (cut near : Cube) (have : Allowance) (l : length near ≡ length cut) where
   -- no position opens
-  pub turn_end : length near ≤ firstOpen near cut → leftFrom f cut have near ≡ record { allowance = have; verdict = Covered; piece = [] }
-  unfolding leftFrom
+  pub turn_end : length near ≤ first_open near cut → left_from f cut have near ≡ record { allowance = have; verdict = Covered; piece = [] }
+  unfolding left_from
   turn_end h = rw (children-none near cut l h) (settle-zero have)
 
   -- the position i opens: y is the cut's code there, z the other value's, and v what the visit of the child says
-  module _ (i : ℕ) (first : i ≡ firstOpen near cut) (h : i < length near) (y z : Code) (ey : y ≡ get_or cut i none) (ez : z ≡ other y)
+  module _ (i : ℕ) (first : i ≡ first_open near cut) (h : i < length near) (y z : Code) (ey : y ≡ get_or cut i none) (ez : z ≡ other y)
       (child : Cube) (c : child ≡ set near i z) (v : Said) (r : v ≡ settle have (f child)) where
-    opened : leftFrom f cut have near ≡ settle have (next (f child) (in_turn f (children (set near i y) cut)))
-    unfolding leftFrom
+    opened : left_from f cut have near ≡ settle have (next (f child) (in_turn f (children (set near i y) cut)))
+    unfolding left_from
     opened = rw (children-first near cut l (omega arith), ← first, ← ey, ← ez, ← c)
 
     -- the child is covered: the piece that agrees there goes on with what it left
-    pub turn-covered : v.verdict ≡ Covered → leftFrom f cut have near ≡ leftFrom f cut v.allowance (set near i y)
-    unfolding leftFrom
+    pub turn-covered : v.verdict ≡ Covered → left_from f cut have near ≡ left_from f cut v.allowance (set near i y)
+    unfolding left_from
     turn-covered q = opened ∙ said-on have (f child) _ v r q
 
     -- it is not: that is the answer
-    pub turn-stop : (v.verdict ≡ Covered → ⊥) → leftFrom f cut have near ≡ v
+    pub turn-stop : (v.verdict ≡ Covered → ⊥) → left_from f cut have near ≡ v
     turn-stop q = opened ∙ sym (said-stop have (f child) _ v r q)
 
 pub is-covered : (k : Verdict) → OneOf (0 ∷ []) (tag_of the_type k) → k ≡ Covered

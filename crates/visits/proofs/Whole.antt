@@ -20,12 +20,12 @@ use denote.Enum.Declared.{tag_of}
 use lib.ListN.{length, get_or, take, replicate}
 use Rattle.model.specs.Cube.{Code, Cube, shares}
 use Rattle.model.specs.Walk.{Survivor, nothing, piece, Found, visit}
-use Rattle.model.specs.Padding.{pad, padSurvivor, padFound}
+use Rattle.model.specs.Padding.{pad, pad_survivor, pad_found}
 use Rattle.model.proofs.Padding.{Lengths, shares-pad, visit-pad}
-use Rattle.cube.specs.Whole.{cubeOf, whole_at, wholesAt}
+use Rattle.cube.specs.Whole.{cube_of, whole_at, wholes_at}
 use Rattle.cube.proofs.Member.{codes-take}
 use Rattle.visits.specs.Settle.{Said, kept, says, after, said_of, settle}
-use Rattle.visits.specs.Words.{cubeOfWords, rowCube, cutsBelow}
+use Rattle.visits.specs.Words.{cube_of_words, row_cube, cuts_below}
 use Rattle.visits.specs.Alive.{Alive, First}
 use Rattle.visits.specs.Loading.{row_of, Loaded, Met}
 use Rattle.visits.specs.Replies.{tells, InBytes}
@@ -41,8 +41,8 @@ use Rattle.visits.proofs.Step.{cut-length}
 use Rattle.visits.proofs.Digits.{below_or}
 use Rattle.visits.proofs.Meeting.{rows-passed}
 
-from-lengths : (q : ℕ) (s : List ℕ) (at n : ℕ) → at + n * q ≤ length s → Lengths (4 * q) (wholesAt q s at n)
-unfolding wholesAt
+from-lengths : (q : ℕ) (s : List ℕ) (at n : ℕ) → at + n * q ≤ length s → Lengths (4 * q) (wholes_at q s at n)
+unfolding wholes_at
 from-lengths q s at zero h = tt
 from-lengths q s at (suc n) h = let e = suc-mul n q in (cut-length q s at (omega arith), from-lengths q s (at + q) n (omega arith))
 
@@ -56,8 +56,8 @@ not-undecided Survives h e = let z : ◌≡◌ {A = ℕ} 0 1 = cc in omega arith
 not-undecided Undecided h e = ⊎_elim (λ (q : ◌≡◌ {A = ℕ} 2 0). omega arith) (λ (q : ◌≡◌ {A = ℕ} 2 1). omega arith) h
 
 module _ (q : ℕ) (s : List ℕ) (at left : ℕ) (cuts : List (List ℕ)) (l : Loaded q s at left cuts left) where
-  pub loaded-cuts : (k : ℕ) → k ≤ left → cutsBelow cuts k ≡ map (pad (320 - 4 * q)) (wholesAt q s (at + (left - k) * q) k)
-  unfolding cutsBelow wholesAt
+  pub loaded-cuts : (k : ℕ) → k ≤ left → cuts_below cuts k ≡ map (pad (320 - 4 * q)) (wholes_at q s (at + (left - k) * q) k)
+  unfolding cuts_below wholes_at
   loaded-cuts zero h = refl
   loaded-cuts (suc k) h =
       let a : left - 1 - k ≡ left - suc k = omega arith in
@@ -80,7 +80,7 @@ module _ (q : ℕ) (s : List ℕ) (at left : ℕ) (cuts : List (List ℕ)) (l : 
         let c : (left - j) * q ≤ left * q = mul-le-mul_right q (omega arith) in
         cut-length q s (at + (left - 1 - j) * q) (omega arith)
 
-    row-shares : (j : ℕ) → j < left → shares P (rowCube cuts j) ≡ shares p (row_of q s at left j)
+    row-shares : (j : ℕ) → j < left → shares P (row_cube cuts j) ≡ shares p (row_of q s at left j)
     row-shares j h = rw (eP, l j h) (shares-pad (320 - 4 * q) p (row_of q s at left j) (lp ∙ sym (row-length j h)))
 
     pub loaded-alive : (n : ℕ) (x : ℕ) → n ≤ left → Met q s (at + (left - n) * q) n p n x → Alive cuts n P x
@@ -88,7 +88,7 @@ module _ (q : ℕ) (s : List ℕ) (at left : ℕ) (cuts : List (List ℕ)) (l : 
 
     -- the cut before the last 64, where there is one
     pub first-met : (n : ℕ) (b : Bool) → n ≡ min left 64 → left ≤ 65 → First left (shares p (whole_at q s at)) b → b ≡ true
-        → shares P (rowCube cuts n) ≡ true
+        → shares P (row_cube cuts n) ≡ true
     first-met n b en h f e =
         ⊎_elim (λ (k : left < 65). absurd (true≢false (sym e ∙ f.0 k)))
         (λ (k : 65 ≤ left).
@@ -96,13 +96,13 @@ module _ (q : ℕ) (s : List ℕ) (at left : ℕ) (cuts : List (List ℕ)) (l : 
         let y : at + 0 * q ≡ at = omega arith in
         row-shares n (omega arith) ∙ rw (z, y) (sym (f.1 k) ∙ e)) (below_or left 65)
 
-    pub first-passed : (n : ℕ) (b : Bool) → n ≡ min left 64 → left ≤ 65 → First left (shares p (whole_at q s at)) b → visit (cutsBelow cuts (cond b (suc n) n)) P ≡ visit (cutsBelow cuts left) P
+    pub first-passed : (n : ℕ) (b : Bool) → n ≡ min left 64 → left ≤ 65 → First left (shares p (whole_at q s at)) b → visit (cuts_below cuts (cond b (suc n) n)) P ≡ visit (cuts_below cuts left) P
     first-passed n b en h f = ⊎_elim few more (below_or left 65)
       where
-        few : left < 65 → visit (cutsBelow cuts (cond b (suc n) n)) P ≡ visit (cutsBelow cuts left) P
+        few : left < 65 → visit (cuts_below cuts (cond b (suc n) n)) P ≡ visit (cuts_below cuts left) P
         few k = let e : n ≡ left = omega arith in rw (f.0 k, e)
 
-        more : 65 ≤ left → visit (cutsBelow cuts (cond b (suc n) n)) P ≡ visit (cutsBelow cuts left) P
+        more : 65 ≤ left → visit (cuts_below cuts (cond b (suc n) n)) P ≡ visit (cuts_below cuts left) P
         more k = let e : left ≡ suc n = omega arith in rw e (go b refl)
           where
             z : left - 1 - n ≡ 0
@@ -111,15 +111,15 @@ module _ (q : ℕ) (s : List ℕ) (at left : ℕ) (cuts : List (List ℕ)) (l : 
             y : at + 0 * q ≡ at
             y = omega arith
 
-            go : (g : Bool) → b ≡ g → visit (cutsBelow cuts (cond g (suc n) n)) P ≡ visit (cutsBelow cuts (suc n)) P
+            go : (g : Bool) → b ≡ g → visit (cuts_below cuts (cond g (suc n) n)) P ≡ visit (cuts_below cuts (suc n)) P
             go true w = refl
             go false w = sym (rows-passed cuts n P (row-shares n (omega arith) ∙ rw (z, y) (sym (f.1 k) ∙ w)))
 
-    pub whole : padFound (320 - 4 * q) (visit (wholesAt q s at left) p) ≡ visit (cutsBelow cuts left) P
+    pub whole : pad_found (320 - 4 * q) (visit (wholes_at q s at left) p) ≡ visit (cuts_below cuts left) P
     whole =
         let z : left - left ≡ 0 = omega arith in
         let y : at + 0 * q ≡ at = omega arith in
-        sym (visit-pad (320 - 4 * q) (4 * q) (wholesAt q s at left) p (from-lengths q s at left inside) lp) ∙ rw (eP, loaded-cuts left (omega arith), z, y)
+        sym (visit-pad (320 - 4 * q) (4 * q) (wholes_at q s at left) p (from-lengths q s at left inside) lp) ∙ rw (eP, loaded-cuts left (omega arith), z, y)
 
 -- a cube with its free places taken off again
 take-pad : (w u : ℕ) (p : Cube) → length p ≡ w → take w (pad u p) ≡ p
@@ -141,28 +141,28 @@ kept-take Undecided (suc w) p = refl
 abbrev trim : ℕ → Said → Said
 trim w d = record { allowance = d.allowance; verdict = d.verdict; piece = take w d.piece }
 
-trim-settle : (w u : ℕ) (a : Allowance) (v : Found) → ((p : Cube) → v.survivor ≡ piece p → length p ≡ w) → trim w (settle a (padFound u v)) ≡ settle a v
+trim-settle : (w u : ℕ) (a : Allowance) (v : Found) → ((p : Cube) → v.survivor ≡ piece p → length p ≡ w) → trim w (settle a (pad_found u v)) ≡ settle a v
 trim-settle w u a v h = ⊎_elim short enough (below_or a.left v.pieces)
   where
     take-nil : (w : ℕ) → take {A = Code} w [] ≡ []
     take-nil zero = refl
     take-nil (suc w) = refl
 
-    said : (s : Survivor) → v.survivor ≡ s → trim w (said_of (after a v.pieces) (padSurvivor u s)) ≡ said_of (after a v.pieces) s
+    said : (s : Survivor) → v.survivor ≡ s → trim w (said_of (after a v.pieces) (pad_survivor u s)) ≡ said_of (after a v.pieces) s
     said nothing e = rw (take-nil w)
     said (piece p) e = rw (take-pad w u p (h p e))
 
-    enough : v.pieces ≤ a.left → trim w (settle a (padFound u v)) ≡ settle a v
-    enough k = rw (settle-le a (padFound u v) k, settle-le a v k) (said v.survivor refl)
+    enough : v.pieces ≤ a.left → trim w (settle a (pad_found u v)) ≡ settle a v
+    enough k = rw (settle-le a (pad_found u v) k, settle-le a v k) (said v.survivor refl)
 
-    short : a.left < v.pieces → trim w (settle a (padFound u v)) ≡ settle a v
-    short k = rw (settle-lt a (padFound u v) k, settle-lt a v k, take-nil w)
+    short : a.left < v.pieces → trim w (settle a (pad_found u v)) ≡ settle a v
+    short k = rw (settle-lt a (pad_found u v) k, settle-lt a v k, take-nil w)
 
 pub in-bytes-says : (q u : ℕ) (a : Allowance) (v : Found) (r : Reply) (o : Outcome) → ((p : Cube) → v.survivor ≡ piece p → length p ≡ 4 * q)
-    → tells r ≡ settle a (padFound u v) → InBytes r o → says q o ≡ settle a v
-unfolding cubeOf
+    → tells r ≡ settle a (pad_found u v) → InBytes r o → says q o ≡ settle a v
+unfolding cube_of
 in-bytes-says q u a v r o h e t =
-    rw (t.allowance, t.verdict, codes-take q o.piece, t.piece, kept-take r.verdict (4 * q) (cubeOfWords r.piece))
+    rw (t.allowance, t.verdict, codes-take q o.piece, t.piece, kept-take r.verdict (4 * q) (cube_of_words r.piece))
     (ap (trim (4 * q)) e ∙ trim-settle (4 * q) u a v h)
 
 -- a smaller allowance

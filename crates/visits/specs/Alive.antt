@@ -9,7 +9,7 @@ use Rattle.std.specs.Prelude.{ℕ, suc, ◌+◌, ◌*◌, ◌/◌, ◌%◌, ◌^
 use Rattle.model.specs.Cube.{Code, none, v0, v1, free, Cube, shares}
 use Rattle.format.specs.Bytes.{code_of}
 use Rattle.visits.specs.Opening.{bit}
-use Rattle.visits.specs.Words.{rowCube}
+use Rattle.visits.specs.Words.{row_cube}
 
 abbrev pub digit : ℕ → ℕ → ℕ
 digit j x = x / 2 ^ j % 2
@@ -27,10 +27,10 @@ clash v1 free = false
 clash free y = false
 
 abbrev pub Alive : List (List ℕ) → ℕ → Cube → ℕ → Type 0
-Alive cuts n p x = (x < 2 ^ n) × ((j : ℕ) → j < n → digit j x ≡ bit (shares p (rowCube cuts j)))
+Alive cuts n p x = (x < 2 ^ n) × ((j : ℕ) → j < n → digit j x ≡ bit (shares p (row_cube cuts j)))
 
 abbrev pub AgainstAt : List (List ℕ) → ℕ → ℕ → Code → ℕ → Type 0
-AgainstAt cuts n i v x = (j : ℕ) → j < n → digit j x ≡ bit (clash v (get_or (rowCube cuts j) i none))
+AgainstAt cuts n i v x = (j : ℕ) → j < n → digit j x ≡ bit (clash v (get_or (row_cube cuts j) i none))
 
 abbrev pub Against : List (List ℕ) → ℕ → List ℕ → Type 0
 Against cuts n rows = (i v : ℕ) → i < 320 → v < 2 → AgainstAt cuts n i (code_of (suc v)) (get_or rows (2 * i + v) 0)

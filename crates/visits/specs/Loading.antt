@@ -11,7 +11,7 @@ use Rattle.model.specs.Padding.{pad}
 use Rattle.format.specs.Bytes.{code_of}
 use Rattle.cube.specs.Whole.{whole_at}
 use Rattle.visits.specs.Opening.{bit}
-use Rattle.visits.specs.Words.{rowCube}
+use Rattle.visits.specs.Words.{row_cube}
 use Rattle.visits.specs.Alive.{digit, clash}
 
 unfoldable pub padded : ℕ → List ℕ → List ℕ
@@ -24,7 +24,7 @@ abbrev pub row_of : ℕ → List ℕ → ℕ → ℕ → ℕ → Cube
 row_of q s at n m = whole_at q s (at + (n - 1 - m) * q)
 
 abbrev pub Loaded : ℕ → List ℕ → ℕ → ℕ → List (List ℕ) → ℕ → Type 0
-Loaded q s at n cuts k = (m : ℕ) → m < k → rowCube cuts m ≡ pad (320 - 4 * q) (row_of q s at n m)
+Loaded q s at n cuts k = (m : ℕ) → m < k → row_cube cuts m ≡ pad (320 - 4 * q) (row_of q s at n m)
 
 abbrev pub Entered : List ℕ → Cube → ℕ → List ℕ → Type 0
 Entered rows c one after = (i v : ℕ) → i < 320 → v < 2 → get_or after (2 * i + v) 0 ≡ get_or rows (2 * i + v) 0 + one * bit (clash (code_of (suc v)) (get_or c i none))

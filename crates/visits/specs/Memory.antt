@@ -12,38 +12,38 @@
 --                          `alive`; m is what these have in common
 use Rattle.std.specs.Prelude.{ℕ, ◌+◌, ◌<◌, ◌≡◌, List, [], length, get_or}
 use Rattle.std.specs.Int.Bits.{bit_or}
-use Rattle.model.specs.Cube.{none, Cube, meetCode}
+use Rattle.model.specs.Cube.{none, Cube, meet_code}
 use Rattle.model.specs.Walk.{nothing, Found, visit}
-use Rattle.visits.specs.Words.{code_in, cubeOfWords, rowCube, cutsBelow, eitherCode}
+use Rattle.visits.specs.Words.{code_in, cube_of_words, row_cube, cuts_below, either_code}
 use Rattle.visits.specs.Alive.{digit, Alive}
 
 abbrev pub Finds : ℕ → Found → Type 0
 Finds k v = (v.pieces ≡ k) × (v.survivor ≡ nothing)
 
 abbrev pub LikeSlot : List ℕ → Cube → Type 0
-LikeSlot slot p = (i : ℕ) → i < 320 → eitherCode (get_or p i none) (code_in slot (320 + i)) ≡ code_in slot i
+LikeSlot slot p = (i : ℕ) → i < 320 → either_code (get_or p i none) (code_in slot (320 + i)) ≡ code_in slot i
 
 unfoldable pub Remembers : List (List ℕ) → List ℕ → Type 0
 Remembers cuts slot =
     0 < get_or slot 21 0 → (n : ℕ) (p : Cube) → length p ≡ 320 → Alive cuts n p (get_or slot 20 0) → LikeSlot slot p
-    → Finds (get_or slot 21 0) (visit (cutsBelow cuts n) p)
+    → Finds (get_or slot 21 0) (visit (cuts_below cuts n) p)
 
 abbrev pub Memory : List (List ℕ) → List (List ℕ) → Type 0
 Memory cuts slots = (e : ℕ) → e < length slots → Remembers cuts (get_or slots e [])
 
 abbrev pub Recalls : List (List ℕ) → List ℕ → ℕ → ℕ → Type 0
 Recalls slots ws alive r =
-    0 < r → (cuts : List (List ℕ)) → Memory cuts slots → (n : ℕ) → Alive cuts n (cubeOfWords ws) alive → Finds r (visit (cutsBelow cuts n) (cubeOfWords ws))
+    0 < r → (cuts : List (List ℕ)) → Memory cuts slots → (n : ℕ) → Alive cuts n (cube_of_words ws) alive → Finds r (visit (cuts_below cuts n) (cube_of_words ws))
 
 abbrev pub Keeps : List (List ℕ) → List (List ℕ) → List ℕ → ℕ → ℕ → List (List ℕ) → Type 0
 Keeps cuts slots ws alive count after =
-    Memory cuts slots → (n : ℕ) → Alive cuts n (cubeOfWords ws) alive → Finds count (visit (cutsBelow cuts n) (cubeOfWords ws)) → Memory cuts after
+    Memory cuts slots → (n : ℕ) → Alive cuts n (cube_of_words ws) alive → Finds count (visit (cuts_below cuts n) (cube_of_words ws)) → Memory cuts after
 
 abbrev pub Lies : List ℕ → Cube → Type 0
-Lies ws c = (i : ℕ) → i < 320 → meetCode (code_in ws i) (get_or c i none) ≡ code_in ws i
+Lies ws c = (i : ℕ) → i < 320 → meet_code (code_in ws i) (get_or c i none) ≡ code_in ws i
 
 abbrev pub Common : List (List ℕ) → ℕ → List ℕ → Type 0
-Common cuts x ws = (j : ℕ) → j < 64 → digit j x ≡ 1 → Lies ws (rowCube cuts j)
+Common cuts x ws = (j : ℕ) → j < 64 → digit j x ≡ 1 → Lies ws (row_cube cuts j)
 
 pub record Slot (near m : List ℕ) (alive count : ℕ) (s : List ℕ) : Type 0 where
   pub own : (w : ℕ) → w < 10 → get_or s w 0 ≡ bit_or (get_or near w 0) (get_or m w 0)

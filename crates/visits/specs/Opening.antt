@@ -1,6 +1,6 @@
 -- Where a cut opens a piece: the positions that the cut fixes and the piece leaves free.
---   firstOpen p c      == the first such position, and as many as p has where there is none
---   isFixed x          == the code x is a value
+--   first_open p c      == the first such position, and as many as p has where there is none
+--   is_fixed x          == the code x is a value
 --   bit b              == 1 where b is true, else 0
 --   quads a b c d      == the number with the digits a, b, c and d of base 4, 1 where one is true
 --   marks f x          == the number with a digit for each place of the byte x: 1 where f holds of its code
@@ -10,16 +10,16 @@ use Rattle.model.specs.Cube.{Code, none, v0, v1, free, Cube}
 use Rattle.model.specs.Walk.{opens}
 use Rattle.format.specs.Bytes.{code_of}
 
-unfoldable pub firstOpen : Cube → Cube → ℕ
-firstOpen [] c = 0
-firstOpen (x ∷ p) [] = suc (length p)
-firstOpen (x ∷ p) (y ∷ c) = let later = suc (firstOpen p c) in cond (opens x y) 0 later
+unfoldable pub first_open : Cube → Cube → ℕ
+first_open [] c = 0
+first_open (x ∷ p) [] = suc (length p)
+first_open (x ∷ p) (y ∷ c) = let later = suc (first_open p c) in cond (opens x y) 0 later
 
-abbrev pub isFixed : Code → Bool
-isFixed none = false
-isFixed v0 = true
-isFixed v1 = true
-isFixed free = false
+abbrev pub is_fixed : Code → Bool
+is_fixed none = false
+is_fixed v0 = true
+is_fixed v1 = true
+is_fixed free = false
 
 abbrev pub bit : Bool → ℕ
 bit b = cond b 1 0

@@ -8,14 +8,14 @@ use Rattle.model.specs.Cube.{Cube}
 use Rattle.model.specs.Walk.{piece, Found}
 use Rattle.format.specs.Bytes.{codes}
 use Rattle.visits.specs.Settle.{Said, kept, settle}
-use Rattle.visits.specs.Words.{cubeOfWords}
+use Rattle.visits.specs.Words.{cube_of_words}
 use Rattle.visits.specs.Memory.{Finds}
 use Rattle.visits.specs.declared.allowance.Allowance.{Allowance}
 use Rattle.visits.specs.declared.allowance.Outcome.{Outcome}
 use Rattle.visits.specs.declared.reply.Reply.{Reply}
 
 abbrev pub tells : Reply → Said
-tells r = record { allowance = r.allowance; verdict = r.verdict; piece = kept r.verdict (cubeOfWords r.piece) }
+tells r = record { allowance = r.allowance; verdict = r.verdict; piece = kept r.verdict (cube_of_words r.piece) }
 
 abbrev pub survives : Cube → Found
 survives p = record { pieces = 1; survivor = piece p }
@@ -26,4 +26,4 @@ Pays k a r = (u : Found) → Finds k u → tells r ≡ settle a u
 pub record InBytes (r : Reply) (o : Outcome) : Type 0 where
   pub allowance : o.allowance ≡ r.allowance
   pub verdict : o.verdict ≡ r.verdict
-  pub piece : codes o.piece ≡ cubeOfWords r.piece
+  pub piece : codes o.piece ≡ cube_of_words r.piece

@@ -3,7 +3,7 @@ ghost use Rattle.std.specs.Prelude.{◌≡◌, suc, ◌+◌, ◌^◌, ◌≤◌,
 ghost use Rattle.model.specs.Cube.{shares};
 ghost use Rattle.model.specs.Walk.{visit};
 ghost use Rattle.visits.specs.Settle.{settle};
-ghost use Rattle.visits.specs.Words.{cubeOfWords, rowCube, cutsBelow};
+ghost use Rattle.visits.specs.Words.{cube_of_words, row_cube, cuts_below};
 ghost use Rattle.visits.specs.Alive.{Alive, Against};
 ghost use Rattle.visits.specs.Memory.{Memory};
 ghost use Rattle.visits.specs.Replies.{tells};
@@ -24,8 +24,8 @@ pub(crate) fn visit(
     against: &[u64],
     slots: &mut [[u64; 22]],
 ) -> Reply
-    requires { (n < length cuts.now) × (length against.now ≡ 640) × (a.left + a.spent < 2 ^ 32) × (shares (cubeOfWords piece) (rowCube cuts.now n) ≡ true) × Alive cuts.now n (cubeOfWords piece) live × Against cuts.now n against.now × Memory cuts.now slots.old }
-    ensures said { tells result ≡ settle a (visit (cutsBelow cuts.now (suc n)) (cubeOfWords piece)) }
+    requires { (n < length cuts.now) × (length against.now ≡ 640) × (a.left + a.spent < 2 ^ 32) × (shares (cube_of_words piece) (row_cube cuts.now n) ≡ true) × Alive cuts.now n (cube_of_words piece) live × Against cuts.now n against.now × Memory cuts.now slots.old }
+    ensures said { tells result ≡ settle a (visit (cuts_below cuts.now (suc n)) (cube_of_words piece)) }
     ensures kept { Memory cuts.now slots.new }
 {
     if a.left == 0 {

@@ -3,7 +3,7 @@ ghost use Rattle.std.specs.Prelude.{◌≡◌, ℕ, ◌+◌, ◌-◌, ◌*◌, �
 ghost use Rattle.model.specs.Padding.{pad};
 ghost use Rattle.format.specs.Bytes.{codes};
 ghost use Rattle.cube.specs.Whole.{whole_at};
-ghost use Rattle.visits.specs.Words.{cubeOfWords};
+ghost use Rattle.visits.specs.Words.{cube_of_words};
 ghost use Rattle.visits.specs.Loading.{padded, HoldsBytes, Loaded};
 
 // Byte b of the cube of q bytes that stands in s at an offset: free places behind its positions.
@@ -31,7 +31,7 @@ fn word(s: &[u8], at: usize, q: usize, b: usize) -> u64
 // The cube of q bytes that stands in s at an offset, in words.
 pub(crate) fn load(s: &[u8], at: usize, q: usize) -> [u64; 10]
     requires { (q ≤ 80) × (at + q ≤ length s.now) }
-    ensures { cubeOfWords result ≡ pad (320 - 4 * q) (whole_at q s.now at) }
+    ensures { cube_of_words result ≡ pad (320 - 4 * q) (whole_at q s.now at) }
 {
     let mut ws = [18446744073709551615u64; 10];
     let mut w = 0;
@@ -58,7 +58,7 @@ pub(crate) fn load_cuts(cuts: &mut [[u64; 10]], s: &[u8], at: usize, n: usize, q
 
 // The bytes of a cube in words.
 pub(crate) fn unload(ws: &[u64; 10]) -> [u8; 80]
-    ensures { codes result ≡ cubeOfWords ws.now }
+    ensures { codes result ≡ cube_of_words ws.now }
 {
     let mut bytes = [0u8; 80];
     let mut b = 0;

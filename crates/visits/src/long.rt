@@ -3,9 +3,9 @@ ghost use Rattle.std.specs.Prelude.{◌≡◌, suc, ◌+◌, ◌*◌, ◌^◌, �
 ghost use Rattle.model.specs.Cube.{shares};
 ghost use Rattle.model.specs.Walk.{visit};
 ghost use Rattle.format.specs.Bytes.{codes};
-ghost use Rattle.cube.specs.Whole.{cubeOf, whole_at, wholesAt};
+ghost use Rattle.cube.specs.Whole.{cube_of, whole_at, wholes_at};
 ghost use Rattle.visits.specs.Settle.{settle, says};
-ghost use Rattle.visits.specs.Words.{cubeOfWords, rowCube, cutsBelow};
+ghost use Rattle.visits.specs.Words.{cube_of_words, row_cube, cuts_below};
 ghost use Rattle.visits.specs.Alive.{Alive, Against, First};
 ghost use Rattle.visits.specs.Memory.{Memory};
 ghost use Rattle.visits.specs.Replies.{tells, InBytes};
@@ -48,8 +48,8 @@ fn begin(
     against: &[u64],
     slots: &mut [[u64; 22]],
 ) -> Reply
-    requires { (n < length cuts.now) × (length against.now ≡ 640) × (a.left + a.spent < 2 ^ 32) × (first ≡ true → shares (cubeOfWords p) (rowCube cuts.now n) ≡ true) × Alive cuts.now n (cubeOfWords p) alive × Against cuts.now n against.now × Memory cuts.now slots.old }
-    ensures { tells result ≡ settle a (visit (cutsBelow cuts.now (cond first (suc n) n)) (cubeOfWords p)) }
+    requires { (n < length cuts.now) × (length against.now ≡ 640) × (a.left + a.spent < 2 ^ 32) × (first ≡ true → shares (cube_of_words p) (row_cube cuts.now n) ≡ true) × Alive cuts.now n (cube_of_words p) alive × Against cuts.now n against.now × Memory cuts.now slots.old }
+    ensures { tells result ≡ settle a (visit (cuts_below cuts.now (cond first (suc n) n)) (cube_of_words p)) }
 {
     if first {
         return fast::visit(p, n, alive, a, cuts, against, slots);
@@ -86,7 +86,7 @@ pub(crate) fn long_walk(
     a: Allowance,
 ) -> Outcome
     requires { (q ≤ 80) × (at + left * q ≤ length s.now) × (left ≤ 65) × (a.left + a.spent < 2 ^ 32) }
-    ensures { says q result ≡ settle a (visit (wholesAt q s.now at left) (cubeOf q piece)) }
+    ensures { says q result ≡ settle a (visit (wholes_at q s.now at left) (cube_of q piece)) }
 {
     let mut cuts = [[0u64; 10]; 65];
     load_cuts(&mut cuts, s, at, left, q);

@@ -1,19 +1,19 @@
 // The positions that a cut fixes and a piece leaves free, found by bytes.
 ghost use Rattle.std.specs.Prelude.{◌≡◌, ◌*◌, ◌/◌, ◌≤◌, length};
 ghost use Rattle.std.specs.Int.Count.{count_leading_zeros};
-ghost use Rattle.format.specs.Bytes.{isFree, codes};
-ghost use Rattle.visits.specs.Opening.{isFixed, marks, openings, firstOpen};
+ghost use Rattle.format.specs.Bytes.{is_free, codes};
+ghost use Rattle.visits.specs.Opening.{is_fixed, marks, openings, first_open};
 
 // A digit 1 of base 4 for each place of a byte that holds code 3.
 fn free_marks(x: u8) -> u8
-    ensures { result ≡ marks isFree x }
+    ensures { result ≡ marks is_free x }
 {
     x & (x >> 1) & 0x55
 }
 
 // A digit 1 of base 4 for each place of a byte that holds code 1 or 2.
 fn fixed_marks(y: u8) -> u8
-    ensures { result ≡ marks isFixed y }
+    ensures { result ≡ marks is_fixed y }
 {
     (y ^ (y >> 1)) & 0x55
 }
@@ -34,8 +34,8 @@ fn first_place(m: u8) -> usize
 
 // The first position that the cut opens, and as many as there are where it opens none; the bytes before `from` have none.
 pub(crate) fn next_open(near: &[u8], cut: &[u8], from: usize) -> usize
-    requires { (length near.now ≡ length cut.now) × (length near.now ≤ 80) × (4 * from ≤ firstOpen (codes near.now) (codes cut.now)) }
-    ensures { result ≡ firstOpen (codes near.now) (codes cut.now) }
+    requires { (length near.now ≡ length cut.now) × (length near.now ≤ 80) × (4 * from ≤ first_open (codes near.now) (codes cut.now)) }
+    ensures { result ≡ first_open (codes near.now) (codes cut.now) }
 {
     let mut b = from;
     while b < near.len() {

@@ -1,7 +1,7 @@
 // What a visit over words gives back.
 ghost use Rattle.std.specs.Prelude.{◌≡◌, ◌+◌, ◌^◌, ◌<◌};
 ghost use Rattle.visits.specs.Settle.{settle};
-ghost use Rattle.visits.specs.Words.{cubeOfWords};
+ghost use Rattle.visits.specs.Words.{cube_of_words};
 ghost use Rattle.visits.specs.Replies.{tells, survives, Pays};
 
 use super::allowance::{Allowance, Verdict};
@@ -42,7 +42,7 @@ pub(crate) fn pay(have: Allowance, k: u64, piece: [u64; 10]) -> Reply
 // A visit of a piece that no cut meets.
 pub(crate) fn last(have: Allowance, piece: [u64; 10]) -> Reply
     requires { have.left + have.spent < 2 ^ 32 }
-    ensures { tells result ≡ settle have (survives (cubeOfWords piece)) }
+    ensures { tells result ≡ settle have (survives (cube_of_words piece)) }
 {
     if have.left == 0 {
         return Reply {

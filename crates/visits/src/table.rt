@@ -1,7 +1,7 @@
 // The words that a long walk needs beside its cuts: against which cuts a value at a position is, and which cuts the base meets.
 ghost use Rattle.std.specs.Prelude.{◌≡◌, ℕ, ◌+◌, ◌*◌, ◌^◌, ◌≤◌, ◌<◌, length, get_or};
 ghost use Rattle.format.specs.Bytes.{codes};
-ghost use Rattle.visits.specs.Words.{cubeOfWords};
+ghost use Rattle.visits.specs.Words.{cube_of_words};
 ghost use Rattle.visits.specs.Alive.{Against};
 ghost use Rattle.visits.specs.Loading.{Entered, Met};
 
@@ -12,7 +12,7 @@ use cube::meets;
 // Enters a cut, whose digit is `one`, at each value that it clashes with.
 fn enter(against: &mut [u64], cut: &[u64; 10], one: u64)
     requires { (length against.old ≡ 640) × ((k : ℕ) → k < 640 → get_or against.old k 0 + one < 2 ^ 64) }
-    ensures { Entered against.old (cubeOfWords cut.now) one against.new }
+    ensures { Entered against.old (cube_of_words cut.now) one against.new }
 {
     let mut near = [18446744073709551615u64; 10];
     let mut i = next_open(&near, cut, 0);

@@ -3,9 +3,9 @@ ghost use Rattle.std.specs.Prelude.{◌≡◌, ◌+◌, ◌*◌, ◌^◌, ◌≤
 ghost use Rattle.model.specs.Cube.{shares};
 ghost use Rattle.model.specs.Walk.{visit};
 ghost use Rattle.format.specs.Bytes.{codes};
-ghost use Rattle.cube.specs.Whole.{cubeOf, whole_at, wholesAt};
+ghost use Rattle.cube.specs.Whole.{cube_of, whole_at, wholes_at};
 ghost use Rattle.visits.specs.Cuts.{Skipped};
-ghost use Rattle.visits.specs.Opening.{firstOpen};
+ghost use Rattle.visits.specs.Opening.{first_open};
 ghost use Rattle.visits.specs.Settle.{settle, says};
 
 use super::allowance::{Allowance, Outcome, Verdict};
@@ -31,8 +31,8 @@ fn met(piece: &[u8], s: &[u8], cut: usize) -> bool
 
 // The first position of the piece that such a cut opens; the bytes before `from` have none.
 fn opened(near: &[u8], s: &[u8], cut: usize, from: usize) -> usize
-    requires { (length near.now ≤ 80) × (cut + length near.now ≤ length s.now) × (4 * from ≤ firstOpen (codes near.now) (whole_at (length near.now) s.now cut)) }
-    ensures { result ≡ firstOpen (codes near.now) (whole_at (length near.now) s.now cut) }
+    requires { (length near.now ≤ 80) × (cut + length near.now ≤ length s.now) × (4 * from ≤ first_open (codes near.now) (whole_at (length near.now) s.now cut)) }
+    ensures { result ≡ first_open (codes near.now) (whole_at (length near.now) s.now cut) }
 {
     let end = cut + near.len();
     next_open(near, &s[cut..end], from)
@@ -65,7 +65,7 @@ pub(crate) fn visit(
     a: Allowance,
 ) -> Outcome
     requires { (q ≤ 80) × (at + left * q ≤ length s.now) × (a.left + a.spent < 2 ^ 32) }
-    ensures { says q result ≡ settle a (visit (wholesAt q s.now at left) (cubeOf q piece)) }
+    ensures { says q result ≡ settle a (visit (wholes_at q s.now at left) (cube_of q piece)) }
 {
     if a.left == 0 {
         return Outcome {

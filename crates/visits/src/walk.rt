@@ -1,7 +1,7 @@
 // The walk: plainly as long as it is short, and from the start over words where it is long.
 ghost use Rattle.std.specs.Prelude.{◌≡◌, ◌+◌, ◌-◌, ◌*◌, ◌^◌, ◌≤◌, ◌<◌, length};
 ghost use Rattle.model.specs.Walk.{visit};
-ghost use Rattle.cube.specs.Whole.{cubeOf, wholesAt};
+ghost use Rattle.cube.specs.Whole.{cube_of, wholes_at};
 ghost use Rattle.visits.specs.Settle.{settle, says};
 ghost use Rattle.visits.specs.Walked.{possible, walked, Resumed};
 
@@ -33,7 +33,7 @@ fn resumed(a: Allowance, r: Outcome) -> Outcome
 // As `visit`, and fast where the walk is long.
 fn walk_within(q: usize, piece: [u8; 80], s: &[u8], at: usize, left: usize, a: Allowance) -> Outcome
     requires { (q ≤ 80) × (at + left * q ≤ length s.now) × (left ≤ 65) × (a.left + a.spent < 2 ^ 32) }
-    ensures { says q result ≡ settle a (visit (wholesAt q s.now at left) (cubeOf q piece)) }
+    ensures { says q result ≡ settle a (visit (wholes_at q s.now at left) (cube_of q piece)) }
 {
     if a.left <= FEW {
         return visit::visit(q, piece, s, at, left, a);

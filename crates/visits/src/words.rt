@@ -1,8 +1,8 @@
 // Cubes of 320 positions in ten words, 32 places to a word.
 ghost use Rattle.std.specs.Prelude.{◌≡◌, ◌+◌, ◌-◌, ◌*◌, ◌/◌, ◌^◌, ◌≤◌, ◌<◌, length, get_or};
 ghost use Rattle.std.specs.Int.Count.{count_leading_zeros};
-ghost use Rattle.visits.specs.Opening.{firstOpen};
-ghost use Rattle.visits.specs.Words.{placeAt, number_in, cubeOfWords, Openings, GivenWord};
+ghost use Rattle.visits.specs.Opening.{first_open};
+ghost use Rattle.visits.specs.Words.{place_at, number_in, cube_of_words, Openings, GivenWord};
 
 // A digit 1 of base 4 for each place where a cut's word y opens a piece's word x.
 fn open_marks(x: u64, y: u64) -> u64
@@ -20,8 +20,8 @@ fn first_place(t: u64) -> usize
 
 // The first position that the cut opens, and 320 where it opens none; the words before `from` have none.
 pub(crate) fn next_open(near: &[u64; 10], cut: &[u64; 10], from: usize) -> usize
-    requires { (from ≤ 10) × (32 * from ≤ firstOpen (cubeOfWords near.now) (cubeOfWords cut.now)) }
-    ensures { result ≡ firstOpen (cubeOfWords near.now) (cubeOfWords cut.now) }
+    requires { (from ≤ 10) × (32 * from ≤ first_open (cube_of_words near.now) (cube_of_words cut.now)) }
+    ensures { result ≡ first_open (cube_of_words near.now) (cube_of_words cut.now) }
 {
     let mut w = from;
     while w < 10 {
@@ -44,7 +44,7 @@ pub(crate) fn number_in(ws: &[u64; 10], i: usize) -> u64
 
 // The word x with the code v at place k, where it has the code 3.
 pub(crate) fn given(x: u64, k: usize, v: u64) -> u64
-    requires { (k < 32) × (v ≤ 3) × (placeAt x k ≡ 3) }
+    requires { (k < 32) × (v ≤ 3) × (place_at x k ≡ 3) }
     ensures { GivenWord x k v result }
 {
     x - ((3 - v) << (62 - 2 * k))

@@ -9,26 +9,26 @@ use mathlib.Core.Path.{◌≡◌, refl, sym, ap, ◌∙◌}
 use mathlib.Core.Bool.{Bool, true, false, cond}
 use lib.Dec.{leb}
 use borrow.Author.Tests.{le-leb, leb-true, leb-false}
-use Rattle.model.specs.Ceiling.{mostPieces, capped}
+use Rattle.model.specs.Ceiling.{most_pieces, capped}
 use Rattle.model.proofs.Bound.{capped-at-most, capped-above}
 
 pub capped-raised : (f x : ℕ) → capped (1 + f * capped x) ≡ capped (1 + f * x)
-capped-raised f x = go (leb mostPieces x) refl
+capped-raised f x = go (leb most_pieces x) refl
   where
-    large : (f : ℕ) → mostPieces ≤ x → capped (1 + f * mostPieces) ≡ capped (1 + f * x)
+    large : (f : ℕ) → most_pieces ≤ x → capped (1 + f * most_pieces) ≡ capped (1 + f * x)
     large zero h = rw (zero-mul x)
     large (suc g) h =
         let a = mul-le-mul_left (suc g) h in
-        let b : mostPieces ≤ 1 + suc g * mostPieces = omega arith in
-        let c : mostPieces ≤ 1 + suc g * x = omega arith in
-        rw (le-leb mostPieces (1 + suc g * mostPieces) b, le-leb mostPieces (1 + suc g * x) c)
+        let b : most_pieces ≤ 1 + suc g * most_pieces = omega arith in
+        let c : most_pieces ≤ 1 + suc g * x = omega arith in
+        rw (le-leb most_pieces (1 + suc g * most_pieces) b, le-leb most_pieces (1 + suc g * x) c)
 
-    go : (b : Bool) → leb mostPieces x ≡ b → capped (1 + f * cond b mostPieces x) ≡ capped (1 + f * x)
-    go true e = large f (leb-true mostPieces x e)
+    go : (b : Bool) → leb most_pieces x ≡ b → capped (1 + f * cond b most_pieces x) ≡ capped (1 + f * x)
+    go true e = large f (leb-true most_pieces x e)
     go false e = refl
 
-pub capped-large : (n : ℕ) → mostPieces ≤ n → mostPieces ≡ capped n
-capped-large n h = rw (le-leb mostPieces n h)
+pub capped-large : (n : ℕ) → most_pieces ≤ n → most_pieces ≡ capped n
+capped-large n h = rw (le-leb most_pieces n h)
 
 capped-rises : (m n : ℕ) → m ≤ n → capped m ≤ capped n
 capped-rises m n h = capped-above (capped m) n (capped-at-most m).0 (le_trans (capped-at-most m).1 h)

@@ -11,10 +11,10 @@ use lib.Seq.{take_at}
 use Rattle.model.specs.Cube.{Cube, meet}
 use Rattle.format.specs.Bytes.{codes}
 use Rattle.format.specs.Told.{over}
-use Rattle.cube.specs.Pair.{andBytes, andInto}
+use Rattle.cube.specs.Pair.{and_bytes, and_into}
 use Rattle.cube.proofs.Codes.{codes-and, length-and}
 use Rattle.cube.proofs.Pairs.{into-over}
-use Rattle.cube.specs.Whole.{cubeOf, whole_at, wholesAt}
+use Rattle.cube.specs.Whole.{cube_of, whole_at, wholes_at}
 use Rattle.cube.specs.Lay.{laid, put}
 use Rattle.cube.proofs.Laying.{put-fits, length_over, front-laid, here-laid}
 use Rattle.cube.proofs.Wholes.{part_length, wholes-more, wholes-same}
@@ -36,8 +36,8 @@ module _ (q n : ℕ) (s t old mid new : List ℕ) (at bt : ℕ) (cuts : at + n *
   laid-second : new ≡ laid mid (n * q) (take (bt + q - bt) (drop bt t))
   laid-second = two ∙ put-fits mid (n * q) (take (bt + q - bt) (drop bt t)) (omega (arith, second, as_long))
 
-  pub cuts-gathered : wholesAt q new 0 (n + 1) ≡ wholesAt q s at n ++ (whole_at q t bt ∷ [])
-  unfolding whole_at cubeOf
+  pub cuts-gathered : wholes_at q new 0 (n + 1) ≡ wholes_at q s at n ++ (whole_at q t bt ∷ [])
+  unfolding whole_at cube_of
   cuts-gathered =
       let x = take (at + n * q - at) (drop at s) in
       let y = take (bt + q - bt) (drop bt t) in
@@ -51,8 +51,8 @@ module _ (q n : ℕ) (s t old mid new : List ℕ) (at bt : ℕ) (cuts : at + n *
       ap (λ (l : List ℕ). take q (drop (n * q) l)) laid-second ∙ here-laid mid y (n * q) (omega (arith, second, as_long)) q second ∙ rw e in
       wholes-more q new 0 n ∙ ap₂ (λ (cs : List Cube) (c : Cube). cs ++ (c ∷ [])) (wholes-same q n new s 0 at front) (rw z (ap codes back))
 
-pub met-piece : (q : ℕ) (a b out : List ℕ) → length a ≡ q → length b ≡ q → q ≤ length out → cubeOf q (andInto a b out) ≡ meet (codes a) (codes b)
-unfolding cubeOf
+pub met-piece : (q : ℕ) (a b out : List ℕ) → length a ≡ q → length b ≡ q → q ≤ length out → cube_of q (and_into a b out) ≡ meet (codes a) (codes b)
+unfolding cube_of
 met-piece q a b out e f h =
     let l = e ∙ sym f in
-    rw (into-over a b out l (omega arith), take_at (andBytes a b) _ q (length-and a b l ∙ e), codes-and a b l)
+    rw (into-over a b out l (omega arith), take_at (and_bytes a b) _ q (length-and a b l ∙ e), codes-and a b l)

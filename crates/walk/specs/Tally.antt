@@ -4,17 +4,17 @@
 --                       the base; and a cube that leaves a position free, of those that the base leaves free, exactly where it does not matter
 use Rattle.std.specs.Prelude.{ℕ, ◌≡◌, List, [], ◌∷◌, Bool, not, ◌&&◌, length}
 use Rattle.model.specs.Cube.{Cube}
-use Rattle.model.specs.Ceiling.{ceilingFrom, meeting, matters, capped}
-use Rattle.format.specs.Bytes.{codes, isFree}
-use Rattle.cube.specs.Whole.{cubeOf}
+use Rattle.model.specs.Ceiling.{ceiling_from, meeting, matters, capped}
+use Rattle.format.specs.Bytes.{codes, is_free}
+use Rattle.cube.specs.Whole.{cube_of}
 use Rattle.walk.specs.declared.tally.Tally.{Tally}
 
 unfoldable pub lost : Cube → Cube → List Bool
 lost [] u = []
 lost (x ∷ b) [] = []
-lost (x ∷ b) (y ∷ u) = (isFree x && not (isFree y)) ∷ lost b u
+lost (x ∷ b) (y ∷ u) = (is_free x && not (is_free y)) ∷ lost b u
 
 pub record Tallied (b : List ℕ) (cs : List Cube) (t : Tally) : Type 0 where
-  pub nested : t.nested ≡ capped (ceilingFrom (codes b) cs)
+  pub nested : t.nested ≡ capped (ceiling_from (codes b) cs)
   pub met : t.met ≡ meeting (codes b) cs
-  pub kept : lost (codes b) (cubeOf (length b) t.kept) ≡ matters (codes b) cs
+  pub kept : lost (codes b) (cube_of (length b) t.kept) ≡ matters (codes b) cs

@@ -2,10 +2,10 @@
 ghost use Rattle.std.specs.Prelude.{◌≡◌, ◌+◌, ◌*◌, ◌≤◌, length};
 ghost use Rattle.model.specs.Difference.{less};
 ghost use Rattle.model.specs.Ceiling.{ceiling, capped};
-ghost use Rattle.format.specs.Limits.{widestCube, mostCuts};
+ghost use Rattle.format.specs.Limits.{widest_cube, most_cuts};
 ghost use Rattle.format.specs.Bytes.{codes};
-ghost use Rattle.format.specs.Calls.{ceiling-of};
-ghost use Rattle.cube.specs.Whole.{wholesAt};
+ghost use Rattle.format.specs.Calls.{ceiling_of};
+ghost use Rattle.cube.specs.Whole.{wholes_at};
 
 use super::tally::{Tally, smaller, tallied};
 use answer::Answer;
@@ -15,8 +15,8 @@ use region::{front_at, one_refusal};
 // The capped ceiling of the base with the `left` cuts of as many bytes that stand in s from `at` on. One pass, the last cut first, counts for both
 // bounds.
 fn bound(base: &[u8], s: &[u8], at: usize, left: usize) -> u32
-    requires { (length base.now ≤ widestCube) × (left ≤ mostCuts) × (at + left * length base.now ≤ length s.now) }
-    ensures { result ≡ capped (ceiling (less (codes base.now) (wholesAt (length base.now) s.now at left))) }
+    requires { (length base.now ≤ widest_cube) × (left ≤ most_cuts) × (at + left * length base.now ≤ length s.now) }
+    ensures { result ≡ capped (ceiling (less (codes base.now) (wholes_at (length base.now) s.now at left))) }
 {
     let mut t = Tally {
         nested: 1,
@@ -36,7 +36,7 @@ fn bound(base: &[u8], s: &[u8], at: usize, left: usize) -> u32
 
 // The ceiling of the difference in a record, as the count.
 pub fn ceiling(w: usize, s: &[u8]) -> Answer
-    ensures { result ≡ (ceiling-of w s.now).answer }
+    ensures { result ≡ (ceiling_of w s.now).answer }
 {
     let refusal = one_refusal(w, s);
     if refusal.number != 0 {

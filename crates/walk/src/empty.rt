@@ -1,11 +1,11 @@
 // Whether no header is in a difference or a region, or one that is.
 ghost use Rattle.std.specs.Prelude.{◌≡◌, ◌+◌, ◌^◌, ◌≤◌, ◌<◌, length};
-ghost use Rattle.format.specs.Bytes.{cubeLen};
+ghost use Rattle.format.specs.Bytes.{cube_len};
 ghost use Rattle.format.specs.Records.{width_of};
-ghost use Rattle.format.specs.Files.{readFile, faultNumber, regionIn};
+ghost use Rattle.format.specs.Files.{read_file, fault_number, region_in};
 ghost use Rattle.format.specs.Told.{over};
-ghost use Rattle.format.specs.Calls.{diff-empty, region-empty};
-ghost use Rattle.walk.specs.Ending.{Ends, wholeWalks};
+ghost use Rattle.format.specs.Calls.{diff_empty, region_empty};
+ghost use Rattle.walk.specs.Ending.{Ends, whole_walks};
 
 use super::record::walk_record;
 use super::stop::{Stop, all_covered};
@@ -18,8 +18,8 @@ use visits::{Allowance, Verdict};
 // Whether no header is in the difference of a record: yes; no, and a header that is in is written over the front of out; or undecided within the
 // allowance.
 pub fn diff_empty(w: usize, s: &[u8], allowance: u32, out: &mut [u8]) -> Answer
-    ensures answer { result ≡ (diff-empty w s.now allowance (length out.old)).answer }
-    ensures bytes { out.new ≡ over out.old (diff-empty w s.now allowance (length out.old)).bytes }
+    ensures answer { result ≡ (diff_empty w s.now allowance (length out.old)).answer }
+    ensures bytes { out.new ≡ over out.old (diff_empty w s.now allowance (length out.old)).bytes }
 {
     let refusal = one_refusal(w, s);
     if refusal.number != 0 {
@@ -38,8 +38,8 @@ pub fn diff_empty(w: usize, s: &[u8], allowance: u32, out: &mut [u8]) -> Answer
 
 // Walks the differences of an accepted file, whose cubes have q bytes, one after another on one allowance, up to the first that is not covered.
 fn walk_file(q: usize, s: &[u8], a: Allowance) -> Stop
-    requires { (q ≡ cubeLen (width_of s.now)) × (faultNumber (readFile s.now) ≡ 0) × (a.left + a.spent < 2 ^ 32) }
-    ensures { Ends q a 0 (wholeWalks (width_of s.now) (regionIn s.now)) result }
+    requires { (q ≡ cube_len (width_of s.now)) × (fault_number (read_file s.now) ≡ 0) × (a.left + a.spent < 2 ^ 32) }
+    ensures { Ends q a 0 (whole_walks (width_of s.now) (region_in s.now)) result }
 {
     let mut have = a;
     let mut at = first_at(s);
@@ -67,8 +67,8 @@ fn walk_file(q: usize, s: &[u8], a: Allowance) -> Stop
 // Whether no header is in a region file: yes; no, and a header that is in is written over the front of out; or
 // undecided within the allowance.
 pub fn region_empty(s: &[u8], allowance: u32, out: &mut [u8]) -> Answer
-    ensures answer { result ≡ (region-empty s.now allowance (length out.old)).answer }
-    ensures bytes { out.new ≡ over out.old (region-empty s.now allowance (length out.old)).bytes }
+    ensures answer { result ≡ (region_empty s.now allowance (length out.old)).answer }
+    ensures bytes { out.new ≡ over out.old (region_empty s.now allowance (length out.old)).bytes }
 {
     let file = check_file(s);
     if file.number != 0 {

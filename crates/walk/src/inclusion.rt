@@ -1,13 +1,13 @@
 // Whether each header of one difference is in another, or one that is not.
 ghost use Rattle.std.specs.Prelude.{◌≡◌, ◌+◌, ◌^◌, ◌≤◌, ◌<◌, map, length};
 ghost use Rattle.model.specs.Cube.{meet};
-ghost use Rattle.model.specs.Walk.{visit, walkBack, walksLess};
-ghost use Rattle.format.specs.Limits.{widestCube};
+ghost use Rattle.model.specs.Walk.{visit, walk_back, walks_less};
+ghost use Rattle.format.specs.Limits.{widest_cube};
 ghost use Rattle.format.specs.Told.{over};
-ghost use Rattle.format.specs.Calls.{diff-in};
-ghost use Rattle.cube.specs.Whole.{cubeOf, whole_at, wholesAt};
-ghost use Rattle.region.specs.Front.{Stands, wholeDifference};
-ghost use Rattle.walk.specs.Lent.{Pair, lessCuts};
+ghost use Rattle.format.specs.Calls.{diff_in};
+ghost use Rattle.cube.specs.Whole.{cube_of, whole_at, wholes_at};
+ghost use Rattle.region.specs.Front.{Stands, whole_difference};
+ghost use Rattle.walk.specs.Lent.{Pair, less_cuts};
 ghost use Rattle.walk.specs.Ending.{Ends};
 ghost use Rattle.visits.specs.Settle.{settle, says};
 
@@ -26,7 +26,7 @@ const GATHERED: usize = (MOST_CUTS + 1) * WIDEST_CUBE;
 // The cuts of the record with the front f in s, and the base of the one with the front g in t as one more behind them.
 fn gathered(q: usize, s: &[u8], f: Front, t: &[u8], g: Front) -> [u8; GATHERED]
     requires { Pair q s.now f t.now g }
-    ensures { wholesAt q result 0 (f.cuts + 1) ≡ lessCuts q s.now f t.now g }
+    ensures { wholes_at q result 0 (f.cuts + 1) ≡ less_cuts q s.now f t.now g }
 {
     let from = f.base + q;
     let n = f.cuts * q;
@@ -41,7 +41,7 @@ fn gathered(q: usize, s: &[u8], f: Front, t: &[u8], g: Front) -> [u8; GATHERED]
 // Walks the first piece of s less t: the base of s, less its cuts and the base of t.
 fn walk_first(q: usize, s: &[u8], f: Front, t: &[u8], g: Front, a: Allowance) -> Outcome
     requires { Pair q s.now f t.now g × (a.left + a.spent < 2 ^ 32) }
-    ensures { says q result ≡ settle a (visit (lessCuts q s.now f t.now g) (wholeDifference q s.now f).base) }
+    ensures { says q result ≡ settle a (visit (less_cuts q s.now f t.now g) (whole_difference q s.now f).base) }
 {
     let all = gathered(q, s, f, t, g);
     walk(q, load(s, f.base, q), &all, 0, f.cuts + 1, a)
@@ -49,8 +49,8 @@ fn walk_first(q: usize, s: &[u8], f: Front, t: &[u8], g: Front, a: Allowance) ->
 
 // The meet of the base of s and the cut that stands in t at an offset, as a piece.
 fn meet_at(q: usize, s: &[u8], f: Front, t: &[u8], at: usize) -> [u8; WIDEST_CUBE]
-    requires { (q ≤ widestCube) × Stands q s.now f × (at + q ≤ length t.now) }
-    ensures { cubeOf q result ≡ meet (wholeDifference q s.now f).base (whole_at q t.now at) }
+    requires { (q ≤ widest_cube) × Stands q s.now f × (at + q ≤ length t.now) }
+    ensures { cube_of q result ≡ meet (whole_difference q s.now f).base (whole_at q t.now at) }
 {
     let base = f.base;
     let cuts = base + q;
@@ -62,8 +62,8 @@ fn meet_at(q: usize, s: &[u8], f: Front, t: &[u8], at: usize) -> [u8; WIDEST_CUB
 
 // Walks what the cut that stands in t at an offset gives back of s: nothing where it shares no header with the base of s.
 fn walk_back(q: usize, s: &[u8], f: Front, t: &[u8], at: usize, a: Allowance) -> Outcome
-    requires { (q ≤ widestCube) × Stands q s.now f × (at + q ≤ length t.now) × (a.left + a.spent < 2 ^ 32) }
-    ensures { says q result ≡ settle a (walkBack (wholeDifference q s.now f) (whole_at q t.now at)) }
+    requires { (q ≤ widest_cube) × Stands q s.now f × (at + q ≤ length t.now) × (a.left + a.spent < 2 ^ 32) }
+    ensures { says q result ≡ settle a (walk_back (whole_difference q s.now f) (whole_at q t.now at)) }
 {
     let piece = meet_at(q, s, f, t, at);
     let base = f.base;
@@ -83,7 +83,7 @@ fn walk_back(q: usize, s: &[u8], f: Front, t: &[u8], at: usize, a: Allowance) ->
 // walked before, is counted.
 fn walk_restored(q: usize, s: &[u8], f: Front, t: &[u8], g: Front, a: Allowance) -> Stop
     requires { Pair q s.now f t.now g × (a.left + a.spent < 2 ^ 32) }
-    ensures { Ends q a 1 (map (walkBack (wholeDifference q s.now f)) (wholeDifference q t.now g).cuts) result }
+    ensures { Ends q a 1 (map (walk_back (whole_difference q s.now f)) (whole_difference q t.now g).cuts) result }
 {
     let mut have = a;
     let mut at = g.base + q;
@@ -112,7 +112,7 @@ fn walk_restored(q: usize, s: &[u8], f: Front, t: &[u8], g: Front, a: Allowance)
 // Walks the untidied pieces of s less t in their order on one allowance, up to the first that is not covered.
 fn walk_less(q: usize, s: &[u8], f: Front, t: &[u8], g: Front, a: Allowance) -> Stop
     requires { Pair q s.now f t.now g × (a.left + a.spent < 2 ^ 32) }
-    ensures { Ends q a 0 (walksLess (wholeDifference q s.now f) (wholeDifference q t.now g)) result }
+    ensures { Ends q a 0 (walks_less (whole_difference q s.now f) (whole_difference q t.now g)) result }
 {
     let v = walk_first(q, s, f, t, g, a);
     let k = v.verdict;
@@ -128,8 +128,8 @@ fn walk_less(q: usize, s: &[u8], f: Front, t: &[u8], g: Front, a: Allowance) -> 
 // Whether each header of the difference in the record s is in that of t: yes; no, and a header that is in the first and not in the second is written
 // over the front of out; or undecided within the allowance.
 pub fn diff_in(w: usize, s: &[u8], t: &[u8], allowance: u32, out: &mut [u8]) -> Answer
-    ensures answer { result ≡ (diff-in w s.now t.now allowance (length out.old)).answer }
-    ensures bytes { out.new ≡ over out.old (diff-in w s.now t.now allowance (length out.old)).bytes }
+    ensures answer { result ≡ (diff_in w s.now t.now allowance (length out.old)).answer }
+    ensures bytes { out.new ≡ over out.old (diff_in w s.now t.now allowance (length out.old)).bytes }
 {
     let refusal = two_refusal(w, s, t);
     if refusal.number != 0 {

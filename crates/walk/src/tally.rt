@@ -2,10 +2,10 @@
 ghost use Rattle.std.specs.Prelude.{◌≡◌, List, [], ◌∷◌, ◌+◌, ◌*◌, ◌^◌, ◌≤◌, ◌<◌, length};
 ghost use Rattle.model.specs.Cube.{Cube};
 ghost use Rattle.model.specs.Difference.{less};
-ghost use Rattle.model.specs.Ceiling.{marks, ceiling, mostPieces, capped};
-ghost use Rattle.format.specs.Limits.{widest, widestCube};
+ghost use Rattle.model.specs.Ceiling.{marks, ceiling, most_pieces, capped};
+ghost use Rattle.format.specs.Limits.{widest, widest_cube};
 ghost use Rattle.format.specs.Bytes.{codes};
-ghost use Rattle.cube.specs.Count.{freeCount};
+ghost use Rattle.cube.specs.Count.{free_count};
 ghost use Rattle.walk.specs.Tally.{lost, Tallied};
 
 use cube::{WIDEST_CUBE, free_places, meet_into, meets};
@@ -21,14 +21,14 @@ pub(crate) struct Tally {
 
 // How many places of a byte hold code 3.
 fn places(b: u8) -> u64
-    ensures { (result ≡ freeCount (codes (b ∷ []))) × (result ≤ 4) }
+    ensures { (result ≡ free_count (codes (b ∷ []))) × (result ≤ 4) }
 {
     free_places(b) as u64
 }
 
 // How many positions the first cube leaves free and the second does not: those that are free in the first and not in their meet.
 fn opened_by(base: &[u8], cut: &[u8]) -> u64
-    requires { (length base.now ≡ length cut.now) × (length base.now ≤ widestCube) }
+    requires { (length base.now ≡ length cut.now) × (length base.now ≤ widest_cube) }
     ensures { (result ≡ marks (lost (codes base.now) (codes cut.now))) × (result ≤ widest) }
 {
     let mut all: u64 = 0;
@@ -44,7 +44,7 @@ fn opened_by(base: &[u8], cut: &[u8]) -> u64
 
 // 1 + f * n, capped.
 fn raised(f: u64, n: u32) -> u32
-    requires { f ≤ mostPieces }
+    requires { f ≤ most_pieces }
     ensures { result ≡ capped (1 + f * n) }
 {
     let x = 1 + f * (n as u64);
@@ -66,10 +66,10 @@ fn power(s: u64) -> u32
 
 // The tally with one cut more, in front of those counted.
 pub(crate) fn tallied(base: &[u8], cut: &[u8], t: Tally) -> Tally
-    requires cubes { (length base.now ≡ length cut.now) × (length base.now ≤ widestCube) }
-    requires tally { (length t.kept ≡ widestCube) × (t.met < mostPieces) }
+    requires cubes { (length base.now ≡ length cut.now) × (length base.now ≤ widest_cube) }
+    requires tally { (length t.kept ≡ widest_cube) × (t.met < most_pieces) }
     ensures counts { (cs : List Cube) → Tallied base.now cs t → Tallied base.now (codes cut.now ∷ cs) result }
-    ensures small { (length result.kept ≡ widestCube) × (result.met ≤ t.met + 1) }
+    ensures small { (length result.kept ≡ widest_cube) × (result.met ≤ t.met + 1) }
 {
     if !meets(base, cut) {
         return t;
@@ -86,7 +86,7 @@ pub(crate) fn tallied(base: &[u8], cut: &[u8], t: Tally) -> Tally
 
 // The smaller of the two bounds, capped.
 pub(crate) fn smaller(base: &[u8], t: Tally) -> u32
-    requires { (length base.now ≤ widestCube) × (length t.kept ≡ widestCube) × (t.met ≤ mostPieces) }
+    requires { (length base.now ≤ widest_cube) × (length t.kept ≡ widest_cube) × (t.met ≤ most_pieces) }
     ensures { (cs : List Cube) → Tallied base.now cs t → result ≡ capped (ceiling (less (codes base.now) cs)) }
 {
     let kept = t.kept;

@@ -1,9 +1,9 @@
 // What the outcome of a walk tells.
 ghost use Rattle.std.specs.Prelude.{◌≡◌, ◌≤◌, length};
 ghost use Rattle.format.specs.Limits.{widest};
-ghost use Rattle.format.specs.Bytes.{headerLen};
+ghost use Rattle.format.specs.Bytes.{header_len};
 ghost use Rattle.format.specs.Told.{over};
-ghost use Rattle.walk.specs.Tell.{toldOf};
+ghost use Rattle.walk.specs.Tell.{told_of};
 
 use super::stop::Stop;
 use answer::Answer;
@@ -12,9 +12,9 @@ use visits::Verdict;
 
 // The answer of a walk; where a piece survives, the header that it shows is written over the front of out, which has room for it.
 pub(crate) fn tell(x: Stop, w: usize, out: &mut [u8]) -> Answer
-    requires { (w ≤ widest) × (headerLen w ≤ length out.old) }
-    ensures answer { result ≡ (toldOf w x).answer }
-    ensures bytes { out.new ≡ over out.old (toldOf w x).bytes }
+    requires { (w ≤ widest) × (header_len w ≤ length out.old) }
+    ensures answer { result ≡ (told_of w x).answer }
+    ensures bytes { out.new ≡ over out.old (told_of w x).bytes }
 {
     let v = x.outcome;
     let verdict = v.verdict;

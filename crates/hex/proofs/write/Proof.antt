@@ -6,12 +6,12 @@ use mathlib.Core.Path.{◌≡◌, refl}
 use lib.ListN.{length, take, length-set}
 use borrow.Author.Rules.{rules}
 use Rattle.hex.proofs.Writing.{one_more}
-use Rattle.hex.specs.Digits.{withDigits, fitting}
+use Rattle.hex.specs.Digits.{with_digits, fitting}
 use Rattle.hex.proofs.write.Statement.{statement}
 use Rattle.hex.proofs.write.Tie as tie
 
 abbrev invariant-loop : tie.invariant-loop
-invariant-loop s out₀ n i₀ out i = (i ≤ n) × (length out ≡ length out₀) × (out ≡ withDigits out₀ (take i s))
+invariant-loop s out₀ n i₀ out i = (i ≤ n) × (length out ≡ length out₀) × (out ≡ with_digits out₀ (take i s))
 
 abbrev decreases-loop : tie.decreases-loop
 decreases-loop s out₀ n i₀ out i = n - i

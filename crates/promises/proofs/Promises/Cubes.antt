@@ -1,11 +1,11 @@
 -- What is promised of two lent cubes, by `cube_meet`, `cube_in`, `wider` and `wider_number`. Beside the lines that the page has of every call:
---   cube-meet-means, cube-meet-none    the cube written holds the headers of both; where the answer is 2, no header is in both
---   cube-meet-written        the bytes written are accepted as a lent cube, and it is the meet
---   cube-in-yes, cube-in-no  yes says that every header of the first is in the second, no that one is not
+--   cube_meet-means, cube_meet-none    the cube written holds the headers of both; where the answer is 2, no header is in both
+--   cube_meet-written        the bytes written are accepted as a lent cube, and it is the meet
+--   cube_in-yes, cube_in-no  yes says that every header of the first is in the second, no that one is not
 --   wider-means              which of two accepted cubes is handed back
 --   wider-first, wider-second    the cube that is handed back holds every header of the other
 --   wider-neither            none is handed back exactly where the separate question does not say yes
---   wider-number-yes, wider-number-no  yes says that one of the cubes holds every header of the other, no that neither does
+--   wider_number-yes, wider_number-no  yes says that one of the cubes holds every header of the other, no that neither does
 use Prim.Native.Nat.{ℕ, ◌≤◌}
 use native.Mathlib.Omega.{arith}
 use mathlib.Core.Path.{◌≡◌, refl, sym, ap, ◌∙◌}
@@ -18,9 +18,9 @@ use Rattle.model.specs.Cube.{Header, holds, meet, shares, within}
 use Rattle.model.proofs.Cubes.{length_meet}
 use Rattle.answer.specs.Answer.{no}
 use Rattle.format.specs.Rows.{last, row, so, passes, outcome}
-use Rattle.format.specs.Bytes.{cubeLen, readCube, writeCube}
-use Rattle.format.specs.Told.{Told, silent, wide, lentCube, writing}
-use Rattle.format.specs.Calls.{cube-meet, cube-in, Which, first, second, neither, wider, wider-number}
+use Rattle.format.specs.Bytes.{cube_len, read_cube, write_cube}
+use Rattle.format.specs.Told.{Told, silent, wide, lent_cube, writing}
+use Rattle.format.specs.Calls.{cube_meet, cube_in, Which, first, second, neither, wider, wider_number}
 use Rattle.format.specs.Meaning.{WrittenCube, Inside, Outside}
 use Rattle.format.proofs.Reached.{each, skipped}
 use Rattle.format.proofs.Refusals.{lent-refusal}
@@ -28,34 +28,34 @@ use Rattle.format.proofs.Coding.{lent_length, read_length}
 use Rattle.format.proofs.Rewriting
 use Rattle.format.proofs.Belonging
 use Rattle.cube.specs.Call.{WiderIs}
-use Rattle.cube.proofs.cube_meet as cube-meet-call
-use Rattle.cube.proofs.cube_in as cube-in-call
+use Rattle.cube.proofs.cube_meet as cube_meet-call
+use Rattle.cube.proofs.cube_in as cube_in-call
 use Rattle.cube.proofs.wider as wider-call
-use Rattle.cube.proofs.wider_number as wider-number-call
-pub use Rattle.cube.proofs.cube_meet.Met.{met as cube-meet-met}
-pub use Rattle.cube.proofs.cube_in.Met.{met as cube-in-met}
+use Rattle.cube.proofs.wider_number as wider_number-call
+pub use Rattle.cube.proofs.cube_meet.Met.{met as cube_meet-met}
+pub use Rattle.cube.proofs.cube_in.Met.{met as cube_in-met}
 pub use Rattle.cube.proofs.wider.Met.{met as wider-met}
-pub use Rattle.cube.proofs.wider_number.Met.{met as wider-number-met}
+pub use Rattle.cube.proofs.wider_number.Met.{met as wider_number-met}
 use Rattle.promises.specs.Outcome.{Promise, Buffered, OneOutcome, OneResult, SameStretch, Kept}
-use Rattle.promises.specs.Accepted.{Tells, yesNo, writes, Cubes}
+use Rattle.promises.specs.Accepted.{Tells, yes_no, writes, Cubes}
 use Rattle.promises.proofs.Agreeing.{permitted, agree, same-result}
 use Rattle.promises.proofs.Telling.{by-table, and_then, yes-no, cube-size}
 use Rattle.promises.proofs.Keeping.{kept}
 
 -- the tests of two lent cubes pass exactly where both are accepted
-cubes-tell : (w : ℕ) (a b : List ℕ) (y : Told) → Tells (Cubes w a b) y (outcome (wide w (lentCube w a 1 (lentCube w b 2 (last y)))))
+cubes-tell : (w : ℕ) (a b : List ℕ) (y : Told) → Tells (Cubes w a b) y (outcome (wide w (lent_cube w a 1 (lent_cube w b 2 (last y)))))
 cubes-tell w a b y = by-table 4 _ (omega (arith, lent-refusal w a, lent-refusal w b)) (omega arith) (omega arith)
 
 -- CUBE_MEET: the cube of the common headers, or 2 (FORMAT 67)
-pub cube-meet-promise : Promise cube-meet-call.Kinds.ps cube-meet-call.Kinds.r cube-meet-call.Reads.Asked cube-meet-call.Reads.Learnt
-    (λ κs (w, (a, (b, (old, _)))) x (_, (_, (_, (new, _)))). Buffered (cube-meet w a.now b.now) old x new)
-cube-meet-promise = record { anything = λ κs a. tt; permits = λ κs a x e. permitted }
+pub cube_meet-promise : Promise cube_meet-call.Kinds.ps cube_meet-call.Kinds.r cube_meet-call.Reads.Asked cube_meet-call.Reads.Learnt
+    (λ κs (w, (a, (b, (old, _)))) x (_, (_, (_, (new, _)))). Buffered (cube_meet w a.now b.now) old x new)
+cube_meet-promise = record { anything = λ κs a. tt; permits = λ κs a x e. permitted }
 
-meet-size : {w : ℕ} {a b : List ℕ} → Cubes w a b → length (writeCube (meet (readCube w a) (readCube w b))) ≡ cubeLen w
+meet-size : {w : ℕ} {a b : List ℕ} → Cubes w a b → length (write_cube (meet (read_cube w a) (read_cube w b))) ≡ cube_len w
 meet-size {w} {a} {b} c =
     let m = read_length w a (lent_length w a c.first) in
     let n = read_length w b (lent_length w b c.second) in
-    cube-size w (meet (readCube w a) (readCube w b)) (length_meet (readCube w a) (readCube w b) (m ∙ sym n) ∙ m)
+    cube-size w (meet (read_cube w a) (read_cube w b)) (length_meet (read_cube w a) (read_cube w b) (m ∙ sym n) ∙ m)
 
 -- bytes are written exactly where they fit
 writing-tells : (bs : List ℕ) {size : ℕ} → length bs ≡ size → (room : ℕ) → Tells (size ≤ room) (writes bs) (outcome (writing bs room))
@@ -69,82 +69,82 @@ meeting-tells true bs e room = let a = writing-tells bs e room in record { accep
 meeting-tells false bs e room = record { accepted = λ l h. absurd (true≢false (sym h)); told = λ f. refl }
 
 module _ (w : ℕ) (a b : List ℕ) where
-  pub cube-meet-agrees : (old : List ℕ) → OneOutcome (cube-meet w a b (length old)) old
-  cube-meet-agrees old = agree _ _
+  pub cube_meet-agrees : (old : List ℕ) → OneOutcome (cube_meet w a b (length old)) old
+  cube_meet-agrees old = agree _ _
 
-  pub cube-meet-answered : (room : ℕ)
-      → let c = readCube w a in
-      let d = readCube w b in
-      Tells (Cubes w a b × (shares c d ≡ true → cubeLen w ≤ room)) (cond (shares c d) (writes (writeCube (meet c d))) (silent no))
-      (cube-meet w a b room)
-  unfolding cube-meet outcome
-  cube-meet-answered room =
-      let c = readCube w a in
-      let d = readCube w b in
-      and_then (cubes-tell w a b _) (λ lent. meeting-tells (shares c d) (writeCube (meet c d)) (meet-size lent) room)
+  pub cube_meet-answered : (room : ℕ)
+      → let c = read_cube w a in
+      let d = read_cube w b in
+      Tells (Cubes w a b × (shares c d ≡ true → cube_len w ≤ room)) (cond (shares c d) (writes (write_cube (meet c d))) (silent no))
+      (cube_meet w a b room)
+  unfolding cube_meet outcome
+  cube_meet-answered room =
+      let c = read_cube w a in
+      let d = read_cube w b in
+      and_then (cubes-tell w a b _) (λ lent. meeting-tells (shares c d) (write_cube (meet c d)) (meet-size lent) room)
 
-  pub cube-meet-kept : (room : ℕ) → Kept room (cube-meet w a b room)
-  unfolding cube-meet
-  cube-meet-kept room = kept room _ (omega arith) (omega arith)
+  pub cube_meet-kept : (room : ℕ) → Kept room (cube_meet w a b room)
+  unfolding cube_meet
+  cube_meet-kept room = kept room _ (omega arith) (omega arith)
 
-  pub cube-meet-means : (room : ℕ) → (cube-meet w a b room).answer.number ≡ 0 → (h : Header)
-      → holds (readCube w (cube-meet w a b room).bytes) h ≡ holds (readCube w a) h && holds (readCube w b) h
-  cube-meet-means = Rewriting.in-cube-meet w a b
+  pub cube_meet-means : (room : ℕ) → (cube_meet w a b room).answer.number ≡ 0 → (h : Header)
+      → holds (read_cube w (cube_meet w a b room).bytes) h ≡ holds (read_cube w a) h && holds (read_cube w b) h
+  cube_meet-means = Rewriting.in-cube_meet w a b
 
-  pub cube-meet-none : (room : ℕ) → (cube-meet w a b room).answer.number ≡ 2 → (h : Header)
-      → holds (readCube w a) h && holds (readCube w b) h ≡ false
-  cube-meet-none = Belonging.cube-meet-no w a b
+  pub cube_meet-none : (room : ℕ) → (cube_meet w a b room).answer.number ≡ 2 → (h : Header)
+      → holds (read_cube w a) h && holds (read_cube w b) h ≡ false
+  cube_meet-none = Belonging.cube_meet-no w a b
 
-  pub cube-meet-written : (room : ℕ) → (cube-meet w a b room).answer.number ≡ 0
-      → WrittenCube w (meet (readCube w a) (readCube w b)) (cube-meet w a b room).bytes
-  cube-meet-written = Rewriting.cube-meet-written w a b
+  pub cube_meet-written : (room : ℕ) → (cube_meet w a b room).answer.number ≡ 0
+      → WrittenCube w (meet (read_cube w a) (read_cube w b)) (cube_meet w a b room).bytes
+  cube_meet-written = Rewriting.cube_meet-written w a b
 
 -- CUBE_IN: whether the first lies in the second (FORMAT 68)
-pub cube-in-promise : Promise cube-in-call.Kinds.ps cube-in-call.Kinds.r cube-in-call.Reads.Asked cube-in-call.Reads.Learnt
-    (λ κs (w, (a, (b, _))) x e. x ≡ (cube-in w a.now b.now).answer)
-cube-in-promise = record { anything = λ κs a. tt; permits = λ κs a x e l. l }
+pub cube_in-promise : Promise cube_in-call.Kinds.ps cube_in-call.Kinds.r cube_in-call.Reads.Asked cube_in-call.Reads.Learnt
+    (λ κs (w, (a, (b, _))) x e. x ≡ (cube_in w a.now b.now).answer)
+cube_in-promise = record { anything = λ κs a. tt; permits = λ κs a x e l. l }
 
 module _ (w : ℕ) (a b : List ℕ) where
-  pub cube-in-agrees : OneResult (cube-in w a b).answer
-  cube-in-agrees = same-result _
+  pub cube_in-agrees : OneResult (cube_in w a b).answer
+  cube_in-agrees = same-result _
 
-  pub cube-in-answered : Tells (Cubes w a b) (yesNo (within (readCube w a) (readCube w b))) (cube-in w a b)
-  unfolding cube-in outcome
-  cube-in-answered = yes-no _ (cubes-tell w a b _)
+  pub cube_in-answered : Tells (Cubes w a b) (yes_no (within (read_cube w a) (read_cube w b))) (cube_in w a b)
+  unfolding cube_in outcome
+  cube_in-answered = yes-no _ (cubes-tell w a b _)
 
-  pub cube-in-kept : Kept 0 (cube-in w a b)
-  unfolding cube-in
-  cube-in-kept = kept 0 _ (omega arith) (omega arith)
+  pub cube_in-kept : Kept 0 (cube_in w a b)
+  unfolding cube_in
+  cube_in-kept = kept 0 _ (omega arith) (omega arith)
 
-  pub cube-in-yes : (cube-in w a b).answer.number ≡ 1 → Inside w a b
-  cube-in-yes = Belonging.cube-in-yes w a b
+  pub cube_in-yes : (cube_in w a b).answer.number ≡ 1 → Inside w a b
+  cube_in-yes = Belonging.cube_in-yes w a b
 
-  pub cube-in-no : (cube-in w a b).answer.number ≡ 2 → Outside w a b
-  cube-in-no = Belonging.cube-in-no w a b
+  pub cube_in-no : (cube_in w a b).answer.number ≡ 2 → Outside w a b
+  cube_in-no = Belonging.cube_in-no w a b
 
 -- WIDER_NUMBER: the number of the wider cube, as a question of its own (FORMAT 92)
-pub wider-number-promise : Promise wider-number-call.Kinds.ps wider-number-call.Kinds.r wider-number-call.Reads.Asked wider-number-call.Reads.Learnt
-    (λ κs (w, (a, (b, _))) x e. x ≡ (wider-number w a.now b.now).answer)
-wider-number-promise = record { anything = λ κs a. tt; permits = λ κs a x e l. l }
+pub wider_number-promise : Promise wider_number-call.Kinds.ps wider_number-call.Kinds.r wider_number-call.Reads.Asked wider_number-call.Reads.Learnt
+    (λ κs (w, (a, (b, _))) x e. x ≡ (wider_number w a.now b.now).answer)
+wider_number-promise = record { anything = λ κs a. tt; permits = λ κs a x e l. l }
 
 module _ (w : ℕ) (a b : List ℕ) where
-  pub wider-number-agrees : OneResult (wider-number w a b).answer
-  wider-number-agrees = same-result _
+  pub wider_number-agrees : OneResult (wider_number w a b).answer
+  wider_number-agrees = same-result _
 
-  pub wider-number-answered :
-      Tells (Cubes w a b) (yesNo (within (readCube w b) (readCube w a) || within (readCube w a) (readCube w b))) (wider-number w a b)
-  unfolding wider-number outcome
-  wider-number-answered = yes-no _ (cubes-tell w a b _)
+  pub wider_number-answered :
+      Tells (Cubes w a b) (yes_no (within (read_cube w b) (read_cube w a) || within (read_cube w a) (read_cube w b))) (wider_number w a b)
+  unfolding wider_number outcome
+  wider_number-answered = yes-no _ (cubes-tell w a b _)
 
-  pub wider-number-kept : Kept 0 (wider-number w a b)
-  unfolding wider-number
-  wider-number-kept = kept 0 _ (omega arith) (omega arith)
+  pub wider_number-kept : Kept 0 (wider_number w a b)
+  unfolding wider_number
+  wider_number-kept = kept 0 _ (omega arith) (omega arith)
 
-  pub wider-number-yes : (wider-number w a b).answer.number ≡ 1 → Inside w b a ⊎ Inside w a b
-  wider-number-yes = Belonging.wider-number-yes w a b
+  pub wider_number-yes : (wider_number w a b).answer.number ≡ 1 → Inside w b a ⊎ Inside w a b
+  wider_number-yes = Belonging.wider_number-yes w a b
 
-  pub wider-number-no : (wider-number w a b).answer.number ≡ 2 → Outside w b a × Outside w a b
-  wider-number-no = Belonging.wider-number-no w a b
+  pub wider_number-no : (wider_number w a b).answer.number ≡ 2 → Outside w b a × Outside w a b
+  wider_number-no = Belonging.wider_number-no w a b
 
 -- WIDER: the very bytes of the wider cube, or none (FORMAT 89, 90)
 pub wider-promise : Promise wider-call.Kinds.ps wider-call.Kinds.r wider-call.Reads.Asked wider-call.Reads.Learnt
@@ -163,14 +163,14 @@ which : (x y : Bool) → outcome (row (so x) first (row (so y) second (last neit
 unfolding outcome passes
 which x y = refl
 
-some-held : (x y : Bool) → cond x first (cond y second neither) ≡ neither → (yesNo (x || y)).answer.number ≡ 1 → ⊥
+some-held : (x y : Bool) → cond x first (cond y second neither) ≡ neither → (yes_no (x || y)).answer.number ≡ 1 → ⊥
 some-held true y e n = let z : ◌≡◌ {A = ℕ} 0 1 = cc in omega arith
 some-held false true e n = let z : ◌≡◌ {A = ℕ} 0 1 = cc in omega arith
 some-held false false e n = omega arith
 
 module _ (w : ℕ) (a b : List ℕ) where
   pub wider-means : Cubes w a b
-      → wider w a b ≡ cond (within (readCube w b) (readCube w a)) first (cond (within (readCube w a) (readCube w b)) second neither)
+      → wider w a b ≡ cond (within (read_cube w b) (read_cube w a)) first (cond (within (read_cube w a) (read_cube w b)) second neither)
   unfolding wider
   wider-means c = sym (skipped 4 _ (omega arith)) ∙ which _ _
 
@@ -180,16 +180,16 @@ module _ (w : ℕ) (a b : List ℕ) where
   pub wider-second : wider w a b ≡ second → Inside w a b
   wider-second = Belonging.wider-second w a b
 
-  held-yes : Cubes w a b → within (readCube w b) (readCube w a) || within (readCube w a) (readCube w b) ≡ true → (wider-number w a b).answer.number ≡ 1
-  held-yes c e = rw ((wider-number-answered w a b).told c, e)
+  held-yes : Cubes w a b → within (read_cube w b) (read_cube w a) || within (read_cube w a) (read_cube w b) ≡ true → (wider_number w a b).answer.number ≡ 1
+  held-yes c e = rw ((wider_number-answered w a b).told c, e)
 
-  pub wider-neither : (wider w a b ≡ neither) ↔ ((wider-number w a b).answer.number ≡ 1 → ⊥)
+  pub wider-neither : (wider w a b ≡ neither) ↔ ((wider_number w a b).answer.number ≡ 1 → ⊥)
   unfolding wider
   wider-neither = (
     λ e n.
-        let c = (wider-number-answered w a b).accepted (omega arith) in
-        some-held (within (readCube w b) (readCube w a)) (within (readCube w a) (readCube w b)) (sym (wider-means c) ∙ e)
-        (rw ((wider-number-answered w a b).told c) at n),
+        let c = (wider_number-answered w a b).accepted (omega arith) in
+        some-held (within (read_cube w b) (read_cube w a)) (within (read_cube w a) (read_cube w b)) (sym (wider-means c) ∙ e)
+        (rw ((wider_number-answered w a b).told c) at n),
     λ f.
         each (λ v. v ≡ neither) _ (
           λ h. refl,

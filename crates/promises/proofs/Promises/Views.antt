@@ -11,10 +11,10 @@ use mathlib.Core.List.{List, []}
 use lib.ListN.{length, get_or, length-map}
 use denote.Ref.{Bor}
 use Rattle.model.specs.Difference.{Difference, less}
-use Rattle.model.specs.Index.{differenceOf}
+use Rattle.model.specs.Index.{difference_of}
 use Rattle.answer.specs.Answer.{yes, refused, fault}
-use Rattle.format.specs.Records.{countAt, width_of, differenceAt}
-use Rattle.format.specs.Files.{readFile, faultNumber, faultOffset, offsets, regionIn}
+use Rattle.format.specs.Records.{count_at, width_of, difference_at}
+use Rattle.format.specs.Files.{read_file, fault_number, fault_offset, offsets, region_in}
 use Rattle.format.specs.Calls.{Viewed, view, unseen}
 use Rattle.format.specs.Meaning.{Seen}
 use Rattle.format.proofs.Reached.{reached, each}
@@ -52,16 +52,16 @@ module _ (s : List ℕ) (d i : ℕ) where
   pub view-shows : (view s d i).answer.number ≡ 1 → Seen s d i (view s d i)
   view-shows = view-told s d i
 
-  cuts-at : Accepted s → d < length (offsets (readFile s)) → length (differenceOf (regionIn s) d).cuts ≡ countAt s (get_or (offsets (readFile s)) d 0)
+  cuts-at : Accepted s → d < length (offsets (read_file s)) → length (difference_of (region_in s) d).cuts ≡ count_at s (get_or (offsets (read_file s)) d 0)
   cuts-at e h =
-      let this = map_at (differenceAt (width_of s) s) (offsets (readFile s)) d (less [] []) h in
+      let this = map_at (difference_at (width_of s) s) (offsets (read_file s)) d (less [] []) h in
       let (_, found) = listed_at (file-of s e).list d h in
       ap (λ (x : Difference). length x.cuts) this ∙ cuts-count found
 
   pub view-yes : Indexed s d i → (view s d i).answer ≡ yes
   unfolding view
   view-yes x =
-      let l : d < length (offsets (readFile s)) = omega (arith, length-map (offsets (readFile s)) (differenceAt (width_of s) s)) in
+      let l : d < length (offsets (read_file s)) = omega (arith, length-map (offsets (read_file s)) (difference_at (width_of s) s)) in
       ap (λ (v : Viewed). v.answer) (sym (reached 3 _ (x.file, (omega arith, (omega (arith, cuts-at x.file l), tt)))))
 
   pub view-23 : Accepted s → (Indexed s d i → ⊥) → view s d i ≡ unseen (refused 23)
@@ -75,14 +75,14 @@ module _ (s : List ℕ) (d i : ℕ) where
             λ h. refl,
             λ m. absurd (f (record {
               file = e;
-              difference = omega (arith, length-map (offsets (readFile s)) (differenceAt (width_of s) s));
+              difference = omega (arith, length-map (offsets (read_file s)) (difference_at (width_of s) s));
               index = omega (arith, cuts-at e (omega arith));
             })),
           ),
         ),
       )
 
-  pub view-refused : (Accepted s → ⊥) → view s d i ≡ unseen (fault (faultNumber (readFile s)) 1 (faultOffset (readFile s)))
+  pub view-refused : (Accepted s → ⊥) → view s d i ≡ unseen (fault (fault_number (read_file s)) 1 (fault_offset (read_file s)))
   unfolding view
   view-refused f = sym (reached 0 _ f)
 

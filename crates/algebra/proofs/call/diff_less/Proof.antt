@@ -2,8 +2,8 @@
 use mathlib.Core.Path.{refl}
 use borrow.Author.Rules.{rules}
 use Rattle.format.proofs.Lending.{two-refused, silent-out, told-out}
-use Rattle.format.specs.Calls.{diff-less}
-use Rattle.algebra.proofs.Calling.{diff-less-stand, diff-less-told}
+use Rattle.format.specs.Calls.{diff_less}
+use Rattle.algebra.proofs.Calling.{diff_less-stand, diff_less-told}
 use Rattle.algebra.proofs.call.diff_less.Statement.{statement}
 use Rattle.algebra.proofs.call.diff_less.Tie as tie
 
@@ -11,7 +11,7 @@ two-refusal-requires : tie.Need-two-refusal-requires
 two-refusal-requires c κs = search rules
 
 returns : tie.Need-returns
-unfolding diff-less
+unfolding diff_less
 returns c =
     let r = c.before.before in
     let x = r.before.before.before.before.args in
@@ -25,7 +25,7 @@ write-region-requires c κs =
     let i = c.before.before in
     let r = i.before.before in
     let x = r.before.before.before.before.args in
-    rw c.before.Front-at.ensures.0.base (diff-less-stand x.w x.s.now x.t.now _ r.two-refusal.ensures i.if1.false)
+    rw c.before.Front-at.ensures.0.base (diff_less-stand x.w x.s.now x.t.now _ r.two-refusal.ensures i.if1.false)
 
 same_length : tie.Need-same-length
 same_length c = search rules
@@ -38,10 +38,10 @@ returns-2 c =
     let r = i.before.before in
     let x = r.before.before.before.before.args in
     let e = rw b.Front-at.ensures.0.base at w.write-region.ensures in
-    told-out _ e.answer e.buffer (diff-less-told x.w x.s.now x.t.now _ r.two-refusal.ensures i.if1.false _)
+    told-out _ e.answer e.buffer (diff_less-told x.w x.s.now x.t.now _ r.two-refusal.ensures i.if1.false _)
 
-pub diff-less-spec : {M : Type 1} → statement M
-diff-less-spec =
+pub diff_less_spec : {M : Type 1} → statement M
+diff_less_spec =
     tie.close
     (tie.spec
     two-refusal-requires

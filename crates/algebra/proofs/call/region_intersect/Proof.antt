@@ -2,12 +2,12 @@
 use mathlib.Core.Path.{◌≡◌, sym, ◌∙◌}
 use borrow.Author.Rules.{rules}
 use Rattle.format.specs.Records.{width_of}
-use Rattle.format.specs.Calls.{region-intersect}
+use Rattle.format.specs.Calls.{region_intersect}
 use Rattle.format.proofs.Reached.{reached}
 use Rattle.format.proofs.Lending.{silent-out, told-out}
 use Rattle.format.proofs.Filing.{File}
 use Rattle.region.proofs.Onward.{file-read}
-use Rattle.algebra.proofs.Calling.{file-fault, file-lent, region-intersect-stand, region-intersect-told}
+use Rattle.algebra.proofs.Calling.{file-fault, file-lent, region_intersect-stand, region_intersect-told}
 use Rattle.algebra.proofs.call.region_intersect.Statement.{statement}
 use Rattle.algebra.proofs.call.region_intersect.Tie as tie
 
@@ -31,7 +31,7 @@ fault-requires : tie.Need-fault-requires
 fault-requires c κs = search rules
 
 returns : tie.Need-returns
-unfolding region-intersect
+unfolding region_intersect
 returns c = silent-out c.fault.ensures (file-fault c.before.before.before.check-file.ensures c.before.if1.true 1 _)
 
 check-file-requires-2 : tie.Need-check-file-requires-2
@@ -41,7 +41,7 @@ fault-requires-2 : tie.Need-fault-requires-2
 fault-requires-2 c κs = search rules
 
 returns-2 : tie.Need-returns-2
-unfolding region-intersect
+unfolding region_intersect
 returns-2 c =
     let g = c.before.before.before in
     silent-out c.fault2.ensures (file-fault g.check-file2.ensures c.before.if2.true 2 _ ∙ file-lent (first g.before) 1 _)
@@ -50,7 +50,7 @@ refused-requires : tie.Need-refused-requires
 refused-requires c κs = search rules
 
 returns-3 : tie.Need-returns-3
-unfolding region-intersect
+unfolding region_intersect
 returns-3 c =
     let j = c.before.before.before.before in
     let g = j.before.before in
@@ -72,7 +72,7 @@ write-region-requires c κs =
     let j = k.before.before.before in
     let i = j.before.before.before in
     let f = i.before.before in
-    rw (f.check-file.ensures.width, a.first-at.ensures, c.before.first-at2.ensures) (region-intersect-stand (first i) (second j) (one_width k))
+    rw (f.check-file.ensures.width, a.first-at.ensures, c.before.first-at2.ensures) (region_intersect-stand (first i) (second j) (one_width k))
 
 same_length : tie.Need-same-length
 same_length c = search rules
@@ -87,10 +87,10 @@ returns-4 c =
     let i = j.before.before.before in
     let f = i.before.before in
     let e = rw (f.check-file.ensures.width, a.first-at.ensures, d.first-at2.ensures) at w.write-region.ensures in
-    told-out _ e.answer e.buffer (region-intersect-told (first i) (second j) (one_width k) _)
+    told-out _ e.answer e.buffer (region_intersect-told (first i) (second j) (one_width k) _)
 
-pub region-intersect-spec : {M : Type 1} → statement M
-region-intersect-spec =
+pub region_intersect_spec : {M : Type 1} → statement M
+region_intersect_spec =
     tie.close
     (tie.spec
     check-file-requires

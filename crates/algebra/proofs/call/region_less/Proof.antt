@@ -3,12 +3,12 @@ use mathlib.Core.Path.{◌≡◌, refl, ◌∙◌}
 use borrow.Author.Rules.{rules}
 use Rattle.format.specs.Rows.{outcome}
 use Rattle.format.specs.Records.{width_of}
-use Rattle.format.specs.Told.{recordTests}
-use Rattle.format.specs.Calls.{region-less}
+use Rattle.format.specs.Told.{record_tests}
+use Rattle.format.specs.Calls.{region_less}
 use Rattle.format.proofs.Lending.{record-refused, silent-out, told-out}
 use Rattle.format.proofs.Filing.{File}
 use Rattle.region.proofs.Onward.{file-read}
-use Rattle.algebra.proofs.Calling.{file-fault, file-lent, region-less-stand, region-less-told}
+use Rattle.algebra.proofs.Calling.{file-fault, file-lent, region_less-stand, region_less-told}
 use Rattle.algebra.proofs.call.region_less.Statement.{statement}
 use Rattle.algebra.proofs.call.region_less.Tie as tie
 
@@ -17,7 +17,7 @@ file c = file-read c.before.before.check-file.ensures c.if1.false
 
 refusal_is : (c : tie.After-record-refusal)
     → let x = c.before.before.before.before.before.before.before.args in
-    c.record-refusal.result ≡ outcome (recordTests (width_of x.s.now) x.t.now 2)
+    c.record-refusal.result ≡ outcome (record_tests (width_of x.s.now) x.t.now 2)
 refusal_is c = rw c.before.before.before.check-file.ensures.width at c.record-refusal.ensures
 
 check-file-requires : tie.Need-check-file-requires
@@ -27,14 +27,14 @@ fault-requires : tie.Need-fault-requires
 fault-requires c κs = search rules
 
 returns : tie.Need-returns
-unfolding region-less
+unfolding region_less
 returns c = silent-out c.fault.ensures (file-fault c.before.before.before.check-file.ensures c.before.if1.true 1 _)
 
 record-refusal-requires : tie.Need-record-refusal-requires
 record-refusal-requires c κs = search rules
 
 returns-2 : tie.Need-returns-2
-unfolding region-less
+unfolding region_less
 returns-2 c =
     let r = c.before.before in
     let i = r.before in
@@ -56,7 +56,7 @@ write-region-requires c κs =
     let f = i.before.before in
     let x = f.before.before.before.before.args in
     rw (f.check-file.ensures.width, c.before.first-at.ensures, b.Front-at.ensures.0.base)
-    (region-less-stand (file i) x.t.now _ (refusal_is r) j.if2.false)
+    (region_less-stand (file i) x.t.now _ (refusal_is r) j.if2.false)
 
 same_length : tie.Need-same-length
 same_length c = search rules
@@ -72,10 +72,10 @@ returns-3 c =
     let f = i.before.before in
     let x = f.before.before.before.before.args in
     let e = rw (f.check-file.ensures.width, a.first-at.ensures, b.Front-at.ensures.0.base) at w.write-region.ensures in
-    told-out _ e.answer e.buffer (region-less-told (file i) x.t.now _ (refusal_is r) j.if2.false _)
+    told-out _ e.answer e.buffer (region_less-told (file i) x.t.now _ (refusal_is r) j.if2.false _)
 
-pub region-less-spec : {M : Type 1} → statement M
-region-less-spec =
+pub region_less_spec : {M : Type 1} → statement M
+region_less_spec =
     tie.close
     (tie.spec
     check-file-requires

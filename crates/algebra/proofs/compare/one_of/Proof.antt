@@ -5,14 +5,14 @@ use mathlib.Core.Path.{◌≡◌, refl, sym, ◌∙◌}
 use lib.ListN.{length}
 use borrow.Author.Rules.{rules}
 use Rattle.model.specs.Tidy.{among}
-use Rattle.cube.specs.Whole.{whole_at, wholesAt}
+use Rattle.cube.specs.Whole.{whole_at, wholes_at}
 use Rattle.cube.proofs.Wholes.{whole_part, row_room, wholes-none, among-found, among-passed}
 use Rattle.algebra.proofs.compare.one_of.Statement.{statement}
 use Rattle.algebra.proofs.compare.one_of.Tie as tie
 
 abbrev invariant-loop : tie.invariant-loop
 invariant-loop s q at from n left₀ next₀ left next =
-    (next + left * q ≤ length s) × (among (whole_at q s at) (wholesAt q s from n) ≡ among (whole_at q s at) (wholesAt q s next left))
+    (next + left * q ≤ length s) × (among (whole_at q s at) (wholes_at q s from n) ≡ among (whole_at q s at) (wholes_at q s next left))
 
 abbrev decreases-loop : tie.decreases-loop
 decreases-loop s q at from n left₀ next₀ left next = left

@@ -9,13 +9,13 @@ use lib.ListN.{length, take}
 use lib.Seq.{length-take-le}
 use borrow.Author.Tests.{not-true, not-false}
 use borrow.Author.Rules.{rules}
-use Rattle.format.specs.Limits.{widestCube, takenCuts}
+use Rattle.format.specs.Limits.{widest_cube, taken_cuts}
 use Rattle.format.specs.Bytes.{codes}
-use Rattle.cube.specs.Whole.{cubeOf, whole_at}
+use Rattle.cube.specs.Whole.{cube_of, whole_at}
 use Rattle.algebra.proofs.Taking.{kept-most}
 use Rattle.algebra.proofs.Pieces.{piece-none, piece-omitted, piece-covered, piece-kept}
-use Rattle.algebra.specs.Tidied.{takenBytes}
-use Rattle.algebra.specs.Stops.{basesOf}
+use Rattle.algebra.specs.Tidied.{taken_bytes}
+use Rattle.algebra.specs.Stops.{bases_of}
 use Rattle.algebra.proofs.piece.make.Statement.{statement}
 use Rattle.algebra.proofs.piece.make.Tie as tie
 
@@ -32,12 +32,12 @@ base-length c =
     (omega (arith, c.put-base.auto.1.1.1.1.1.0, c.before.before.before.before.before.requires.0))
 
 -- the buffer has room for a row of cuts behind the base
-row-taken : (n q : ℕ) → n ≤ takenCuts → q ≤ widestCube → (n + 1) * q ≤ takenBytes
-row-taken n q h l = mul-le-mul {n₂ = takenCuts + 1} {m₂ = widestCube} (omega arith) l
+row-taken : (n q : ℕ) → n ≤ taken_cuts → q ≤ widest_cube → (n + 1) * q ≤ taken_bytes
+row-taken n q h l = mul-le-mul {n₂ = taken_cuts + 1} {m₂ = widest_cube} (omega arith) l
 
 base-is : (c : tie.After-put-base) → c.put-base.result ≡ true
-    → let p = c.before.before.before.before.before.args in codes (base c) ∷ [] ≡ basesOf p.q p.s.now p.front p.t.now p.stop
-unfolding whole_at cubeOf
+    → let p = c.before.before.before.before.before.args in codes (base c) ∷ [] ≡ bases_of p.q p.s.now p.front p.t.now p.stop
+unfolding whole_at cube_of
 base-is c e = let p = c.before.before.before.before.before.args in let d : p.q - 0 ≡ p.q = omega arith in rw d (rw e at c.put-base.ensures)
 
 slice-aggregate-put-base : tie.Need-slice-aggregate-put-base
@@ -107,7 +107,7 @@ take-cuts-requires-2 c κs =
     let z = b.before.before.before.before.before in
     let x = z.args in
     let h = kept-most _ _ _ first.some.given.1 one.take-cuts.ensures.few in
-    let k : first.some.given.0.0 + x.stop.cuts ≤ takenCuts = omega (arith, h, z.requires.2.few, z.requires.3.few) in
+    let k : first.some.given.0.0 + x.stop.cuts ≤ taken_cuts = omega (arith, h, z.requires.2.few, z.requires.3.few) in
     rw (base-length b, one.take-cuts.auto.1.1.1.1.0, z.requires.1) (z.requires.3.cuts, k, row-taken _ x.q k z.requires.0)
 
 enum-known-all : tie.Need-enum-known-all

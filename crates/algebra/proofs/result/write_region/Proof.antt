@@ -6,8 +6,8 @@ use mathlib.Core.List.{List, ◌++◌}
 use lib.ListN.{length, take}
 use borrow.Author.Rules.{rules}
 use Rattle.model.specs.Difference.{Region}
-use Rattle.format.specs.Bytes.{cubeLen}
-use Rattle.format.specs.Records.{width_bytes, differencesBytes}
+use Rattle.format.specs.Bytes.{cube_len}
+use Rattle.format.specs.Records.{width_bytes, differences_bytes}
 use Rattle.cube.proofs.Laying.{put-fits, behind-back}
 use Rattle.algebra.proofs.Measured.{nothing-back, result-long, result-many, result-few, result-size, result-short, result-written}
 use Rattle.algebra.specs.Totals.{total, Counted}
@@ -20,12 +20,12 @@ module _ (c : tie.After-run) where
   start = c.before.before.before.before.before.before
 
   abbrev whole : Region
-  whole = let p = start.args in total p.operation (cubeLen p.w) p.s.now p.a p.t.now p.x
+  whole = let p = start.args in total p.operation (cube_len p.w) p.s.now p.a p.t.now p.x
 
   abbrev rest : List ℕ
   rest = c.run.new.1.1.1.1.1.1.0
 
-  counted : Counted (cubeLen start.args.w) whole (take 0 start.args.out.now) rest c.run.result
+  counted : Counted (cube_len start.args.w) whole (take 0 start.args.out.now) rest c.run.result
   counted = rw c.before.before.cube-len.ensures at c.run.ensures
 
   same : rest ++ start.args.out.now ≡ start.args.out.now
@@ -127,7 +127,7 @@ returns-4 c =
     rw (← told)
     (record {
       answer = c.wrote.ensures;
-      buffer = behind-back out (width_bytes p.w) (differencesBytes (4 * cubeLen p.w) (whole d)) _ w.put-width.new.0 (length (width_bytes p.w)) _
+      buffer = behind-back out (width_bytes p.w) (differences_bytes (4 * cube_len p.w) (whole d)) _ w.put-width.new.0 (length (width_bytes p.w)) _
           refl front refl (omega (arith, size, fits)) (λ h. again.written (again.long ∙ sym (counted d).long ∙ i.if1.false) few h);
     })
 

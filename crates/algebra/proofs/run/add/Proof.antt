@@ -2,7 +2,7 @@
 use native.Mathlib.Omega.{arith}
 use borrow.Author.Rules.{rules}
 use Rattle.cube.proofs.Wholes.{row-length}
-use Rattle.region.specs.Writing.{rowDifference}
+use Rattle.region.specs.Writing.{row_difference}
 use Rattle.region.proofs.Writing.{all-bytes, cubes-few, record-longest, record-length}
 use Rattle.algebra.proofs.Counting.{add_none, add-long, add-past, add-more}
 use Rattle.algebra.specs.Tidied.{held}
@@ -26,7 +26,7 @@ returns-2 c =
     let p = z.args in
     let k = c.before.before.made.given.0.0 in
     rw c.before.before.made.given.1
-    (add-long p.q (rowDifference k p.q p.buf.now) p.out.now p.sum z.requires.3.short (rw (row-length p.q p.buf.now p.q k) c.if1.true))
+    (add-long p.q (row_difference k p.q p.buf.now) p.out.now p.sum z.requires.3.short (rw (row-length p.q p.buf.now p.q k) c.if1.true))
 
 returns-3 : tie.Need-returns-3
 unfolding held
@@ -36,7 +36,7 @@ returns-3 c =
     let p = z.args in
     let k = m.made.given.0.0 in
     rw m.made.given.1
-    (add-past p.q (rowDifference k p.q p.buf.now) p.out.now p.sum z.requires.3.short
+    (add-past p.q (row_difference k p.q p.buf.now) p.out.now p.sum z.requires.3.short
     (rw (row-length p.q p.buf.now p.q k) c.before.before.if1.false) c.if2.true)
 
 add-t8 : tie.Need-overflow-add-t8
@@ -62,7 +62,7 @@ returns-4 c =
     let b = all-bytes p.buf.now (λ i. (m.before.before.before.shared-slice-known.given i).fits) in
     let l = record-length k p.q few z.requires.2 p.buf.now b (omega (arith, cubes-few k p.q few z.requires.2, z.requires.0)) in
     rw m.made.given.1
-    (add-more p.q (rowDifference k p.q p.buf.now) p.out.now p.sum z.requires.3.short
+    (add-more p.q (row_difference k p.q p.buf.now) p.out.now p.sum z.requires.3.short
     (rw (row-length p.q p.buf.now p.q k) few) two.if2.false _ _ (omega (arith, l, w.put-behind.ensures.ends))
     (omega (arith, l, record-longest k p.q few z.requires.2)) w.put-behind.ensures.there)
 

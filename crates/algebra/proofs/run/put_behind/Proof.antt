@@ -4,14 +4,14 @@ use native.Mathlib.Omega.{arith}
 use mathlib.Core.Path.{refl, ◌∙◌}
 use lib.ListN.{length, take, drop, length-take, length-drop}
 use borrow.Author.Rules.{rules}
-use Rattle.format.specs.Records.{frontLen, differenceBytes}
+use Rattle.format.specs.Records.{front_len, difference_bytes}
 use Rattle.cube.proofs.Laying.{tail-back}
-use Rattle.region.specs.Writing.{recordLen, longestRecord, rowDifference}
+use Rattle.region.specs.Writing.{record_len, longest_record, row_difference}
 use Rattle.region.proofs.Writing.{all-bytes, cubes-few, record-len, record-longest, record-put}
 use Rattle.algebra.proofs.run.put_behind.Statement.{statement}
 use Rattle.algebra.proofs.run.put_behind.Tie as tie
 
-longest : (c : tie.After-record-len) → let x = c.before.before.before.args in recordLen x.k x.q ≤ longestRecord
+longest : (c : tie.After-record-len) → let x = c.before.before.before.args in record_len x.k x.q ≤ longest_record
 longest c = let z = c.before.before.before in record-longest z.args.k z.args.q z.requires.1 z.requires.2
 
 record-len-requires : tie.Need-record-len-requires
@@ -47,11 +47,11 @@ returns-2 c =
     let b = all-bytes x.cubes.now (λ i. (r.before.before.shared-slice-known.given i).fits) in
     let few = cubes-few x.k x.q z.requires.1 z.requires.2 in
     let len = record-len x.k x.q z.requires.1 z.requires.2 in
-    let room : frontLen x.k + (x.k + 1) * x.q ≤ length (take (length x.out.now - x.o) (drop x.o x.out.now)) =
+    let room : front_len x.k + (x.k + 1) * x.q ≤ length (take (length x.out.now - x.o) (drop x.o x.out.now)) =
     simp (length-take, length-drop) (omega (arith, len, r.record-len.ensures, a.before.before.if1.false)) in
     record {
       ends = rw r.record-len.ensures;
-      there = λ h. tail-back x.out.now (differenceBytes (4 * x.q) (rowDifference x.k x.q x.cubes.now)) a.put_record.new.0 x.o _ refl
+      there = λ h. tail-back x.out.now (difference_bytes (4 * x.q) (row_difference x.k x.q x.cubes.now)) a.put_record.new.0 x.o _ refl
           (a.put_record.ensures ∙ record-put x.k x.q z.requires.1 z.requires.2 _ x.cubes.now (omega (arith, few, z.requires.0)) room b);
     }
 

@@ -7,9 +7,9 @@ use mathlib.Core.List.{[], ◌++◌, append-nil, append_assoc}
 use lib.ListN.{length}
 use borrow.Author.Rules.{rules}
 use Rattle.model.specs.Difference.{Region}
-use Rattle.model.specs.Tidy.{tidyRegion}
+use Rattle.model.specs.Tidy.{tidy_region}
 use Rattle.region.proofs.Fronts.{front_same}
-use Rattle.region.specs.Front.{frontAt}
+use Rattle.region.specs.Front.{front_at}
 use Rattle.region.specs.declared.front.Front.{Front}
 use Rattle.algebra.proofs.Counting.{count_none, count-over}
 use Rattle.algebra.proofs.Running.{stop-on, left, left-begin, left-stop, left-turn, left_end, Going, records-turn, stops-turn, pairs-less}
@@ -47,14 +47,14 @@ module _ (c : tie.After-add invariant-loop decreases-loop) where
   done = place.loop.inv.done
 
   abbrev here : Region
-  here = let p = start.args in made p.operation p.q p.s.now p.t.now (frontAt p.s.now place.loop.at) place.loop.y
+  here = let p = start.args in made p.operation p.q p.s.now p.t.now (front_at p.s.now place.loop.at) place.loop.y
 
   made-is : held start.args.q c.before.before.before.before.make.new.1.1.1.1.1.0 c.before.before.before.before.make.result ≡ here
   unfolding made
   made-is =
       let p = start.args in
       c.before.before.before.before.make.ensures.tidied
-      ∙ ap₂ (λ (f : Front) (x : Stop). tidyRegion (pieces_of p.q p.s.now f p.t.now x)) place.loop.inv.front stop_is
+      ∙ ap₂ (λ (f : Front) (x : Stop). tidy_region (pieces_of p.q p.s.now f p.t.now x)) place.loop.inv.front stop_is
 
   counted : Counted start.args.q (done ++ here) start.args.out.now c.add.new.1.1.1.0 c.add.result
   counted = rw made-is at (c.add.ensures done start.args.out.now place.loop.inv.counted)

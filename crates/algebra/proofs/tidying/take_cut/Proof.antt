@@ -10,7 +10,7 @@ use borrow.Rule.Slice.PartMut.{put_mid}
 use borrow.Author.Rules.{rules}
 use Rattle.model.specs.Cube.{shares}
 use Rattle.format.specs.Bytes.{codes}
-use Rattle.cube.specs.Pair.{andBytes}
+use Rattle.cube.specs.Pair.{and_bytes}
 use Rattle.cube.proofs.Wholes.{whole_part}
 use Rattle.cube.specs.Whole.{whole_at}
 use Rattle.cube.specs.Lay.{laid}
@@ -29,7 +29,7 @@ held c =
     let o = slot p.base.now p.kept in
     put_mid o (length p.buf.now - o) p.buf.now c.meet-into.new.1.1.0
 
-put : (c : tie.After-meet-into) → let p = (start c).args in held c ≡ laid p.buf.now (slot p.base.now p.kept) (andBytes p.base.now (take (length p.base.now) (drop p.at p.s.now)))
+put : (c : tie.After-meet-into) → let p = (start c).args in held c ≡ laid p.buf.now (slot p.base.now p.kept) (and_bytes p.base.now (take (length p.base.now) (drop p.at p.s.now)))
 put c =
     let z = start c in
     let p = z.args in

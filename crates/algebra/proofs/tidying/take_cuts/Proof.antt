@@ -6,7 +6,7 @@ use mathlib.Core.Path.{◌≡◌, ◌∙◌}
 use lib.ListN.{length}
 use borrow.Author.Rules.{rules}
 use Rattle.cube.proofs.Wholes.{row_room}
-use Rattle.cube.specs.Whole.{wholesAt}
+use Rattle.cube.specs.Whole.{wholes_at}
 use Rattle.algebra.proofs.Taking.{TakesOn, row_kept, row-omitted, row-taken, kept-most, row_fits}
 use Rattle.algebra.proofs.tidying.take_cuts.Statement.{statement}
 use Rattle.algebra.proofs.tidying.take_cuts.Tie as tie
@@ -14,7 +14,7 @@ use Rattle.algebra.proofs.tidying.take_cuts.Tie as tie
 abbrev invariant-loop : tie.invariant-loop
 invariant-loop base s at n buf₀ kept some₀ next₀ left₀ buf some next left =
     (length buf ≡ length buf₀) × (next + left * length base ≤ length s) × (some + left ≤ kept + n) × (left ≤ n)
-    × TakesOn base buf₀ kept (wholesAt (length base) s at n) buf some (wholesAt (length base) s next left)
+    × TakesOn base buf₀ kept (wholes_at (length base) s at n) buf some (wholes_at (length base) s next left)
 
 abbrev decreases-loop : tie.decreases-loop
 decreases-loop base s at n buf₀ kept some₀ next₀ left₀ buf some next left = left
@@ -42,7 +42,7 @@ returns c =
     let t = c.before.before.before.before in
     let l = t.before.before.before in
     let p = l.before.before.before.before.args in
-    row-omitted p.base.now p.buf.now p.kept (wholesAt (length p.base.now) p.s.now p.at p.n) p.s.now l.loop.buf l.loop.some l.loop.next l.loop.left l.loop.invariant.4
+    row-omitted p.base.now p.buf.now p.kept (wholes_at (length p.base.now) p.s.now p.at p.n) p.s.now l.loop.buf l.loop.some l.loop.next l.loop.left l.loop.invariant.4
     _ t.take-cut.result (p.kept + p.n) t.before.before.loop-test.true t.take-cut.ensures c.enum_told.given.1
 
 enum-known-k : tie.Need-enum-known-k invariant-loop decreases-loop
@@ -70,7 +70,7 @@ loop-again c =
       omega (arith, v.1, row_room l.loop.left (length p.base.now) h),
       omega (arith, v.2, m, h),
       omega (arith, v.3),
-      row_kept p.base.now p.buf.now p.kept (wholesAt (length p.base.now) p.s.now p.at p.n) p.s.now l.loop.buf l.loop.some l.loop.next l.loop.left v.4
+      row_kept p.base.now p.buf.now p.kept (wholes_at (length p.base.now) p.s.now p.at p.n) p.s.now l.loop.buf l.loop.some l.loop.next l.loop.left v.4
           _ t.take-cut.result k h t.take-cut.ensures c.before.k.given.1,
     )
 
@@ -81,7 +81,7 @@ returns-2 : tie.Need-returns-2 invariant-loop decreases-loop
 returns-2 c =
     let l = c.before in
     let p = l.before.before.before.before.args in
-    row-taken p.base.now p.buf.now p.kept (wholesAt (length p.base.now) p.s.now p.at p.n) p.s.now l.loop.buf l.loop.some l.loop.next l.loop.left l.loop.invariant.4
+    row-taken p.base.now p.buf.now p.kept (wholes_at (length p.base.now) p.s.now p.at p.n) p.s.now l.loop.buf l.loop.some l.loop.next l.loop.left l.loop.invariant.4
     (p.kept + p.n) (omega arith) (omega arith)
 
 pub take-cuts-spec : {M : Type 1} → statement M

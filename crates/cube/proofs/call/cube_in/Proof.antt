@@ -39,8 +39,8 @@ returns-3 c =
     c.no.ensures
     ∙ ap (λ (t : Told). t.answer) (in-no x.w x.a.now x.b.now _ s.before.before.pair-refusal.ensures s.if1.false unheld)
 
-pub cube-in-spec : {M : Type 1} → statement M
-cube-in-spec =
+pub cube_in_spec : {M : Type 1} → statement M
+cube_in_spec =
     tie.close
     (tie.spec
     pair-refusal-requires

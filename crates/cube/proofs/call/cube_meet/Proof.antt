@@ -77,8 +77,8 @@ returns-4 c =
           ∙ ap (λ (t : Told). over x.out.now t.bytes) e,
     )
 
-pub cube-meet-spec : {M : Type 1} → statement M
-cube-meet-spec =
+pub cube_meet_spec : {M : Type 1} → statement M
+cube_meet_spec =
     tie.close
     (tie.spec
     pair-refusal-requires

@@ -54,8 +54,8 @@ returns-4 c =
     ∙ ap (λ (t : Told). t.answer)
     (number-neither x.w x.a.now x.b.now _ s.before.before.pair-refusal.ensures s.if1.false (sym l.before.lies_in.ensures ∙ l.if2.false) (sym c.before.before.lies-in2.ensures ∙ c.before.if3.false))
 
-pub wider-number-spec : {M : Type 1} → statement M
-wider-number-spec =
+pub wider_number_spec : {M : Type 1} → statement M
+wider_number_spec =
     tie.close
     (tie.spec
     pair-refusal-requires

@@ -2,7 +2,7 @@
 use mathlib.Core.Path.{sym, ◌∙◌}
 use borrow.Author.Rules.{rules}
 use Rattle.format.proofs.Reached.{reached}
-use Rattle.cube.proofs.Faults.{fill, byteRows, byte-fault, free-byte}
+use Rattle.cube.proofs.Faults.{fill, byte_rows, byte-fault, free-byte}
 use Rattle.cube.proofs.fault.byte_fault.Statement.{statement}
 use Rattle.cube.proofs.fault.byte_fault.Tie as tie
 
@@ -24,18 +24,18 @@ code-zero-requires c κs = search rules
 returns-2 : tie.Need-returns-2
 returns-2 c =
     let x = c.before.before.before.args in
-    reached 0 (byteRows x.b (fill x.w)) (sym c.before.code-zero.ensures ∙ c.if2.true) ∙ byte-fault x.w x.b (search rules) (search rules)
+    reached 0 (byte_rows x.b (fill x.w)) (sym c.before.code-zero.ensures ∙ c.if2.true) ∙ byte-fault x.w x.b (search rules) (search rules)
 
 returns-3 : tie.Need-returns-3
 returns-3 c =
     let x = c.before.before.before.before.args in
-    reached 1 (byteRows x.b (fill x.w)) (sym c.before.before.code-zero.ensures ∙ c.before.if2.false, c.if3.true)
+    reached 1 (byte_rows x.b (fill x.w)) (sym c.before.before.code-zero.ensures ∙ c.before.if2.false, c.if3.true)
     ∙ byte-fault x.w x.b (search rules) (search rules)
 
 returns-4 : tie.Need-returns-4
 returns-4 c =
     let x = c.before.before.before.before.args in
-    reached 2 (byteRows x.b (fill x.w)) (sym c.before.before.code-zero.ensures ∙ c.before.if2.false, (c.if3.false, tt))
+    reached 2 (byte_rows x.b (fill x.w)) (sym c.before.before.code-zero.ensures ∙ c.before.if2.false, (c.if3.false, tt))
     ∙ byte-fault x.w x.b (search rules) (search rules)
 
 pub byte-fault-spec : {M : Type 1} → statement M

@@ -1,4 +1,4 @@
--- `cube::fault::cube_fault` meets its contract: each return is a row of `partRows`.
+-- `cube::fault::cube_fault` meets its contract: each return is a row of `part_rows`.
 use mathlib.Core.Path.{◌≡◌, sym, ap, ◌∙◌}
 use mathlib.Core.List.{List}
 use mathlib.Core.Bool.{Bool, true, false, not}
@@ -7,11 +7,11 @@ use lib.ListN.{length, take, drop}
 use borrow.Author.Tests.{not-true, not-false}
 use borrow.Author.Rules.{rules}
 use Rattle.model.specs.Cube.{solid, shares}
-use Rattle.format.specs.Bytes.{codes, allFree}
+use Rattle.format.specs.Bytes.{codes, all_free}
 use Rattle.format.proofs.Reached.{reached}
 use Rattle.cube.proofs.Codes.{shares-self}
 use Rattle.cube.proofs.Parts.{first_part, last-part}
-use Rattle.cube.proofs.Faults.{short-fault, partRows, cube-parts}
+use Rattle.cube.proofs.Faults.{short-fault, part_rows, cube-parts}
 use Rattle.cube.proofs.fault.cube_fault.Statement.{statement}
 use Rattle.cube.proofs.fault.cube_fault.Tie as tie
 
@@ -22,8 +22,8 @@ clear c r t e f = sym (shares-self (codes c)) ∙ sym e ∙ f
 front : (c : List ℕ) (k : ℕ) (r t : Bool) → r ≡ shares (codes (take (k - 0) c)) (codes (take (k - 0) c)) → r ≡ t → not (solid (codes (take k c))) ≡ not t
 front c k r t e f = ap (λ (l : List ℕ). not (solid (codes l))) (sym (first_part c k)) ∙ ap not (clear (take (k - 0) c) r t e f)
 
-rest : (c : List ℕ) (k : ℕ) (r t : Bool) → r ≡ allFree (codes (take (length c - (k + 1)) (drop (k + 1) c))) → r ≡ t → not (allFree (codes (drop (suc k) c))) ≡ not t
-rest c k r t e f = ap (λ (l : List ℕ). not (allFree (codes l))) (sym (last-part c k)) ∙ ap not (sym e ∙ f)
+rest : (c : List ℕ) (k : ℕ) (r t : Bool) → r ≡ all_free (codes (take (length c - (k + 1)) (drop (k + 1) c))) → r ≡ t → not (all_free (codes (drop (suc k) c))) ≡ not t
+rest c k r t e f = ap (λ (l : List ℕ). not (all_free (codes l))) (sym (last-part c k)) ∙ ap not (sym e ∙ f)
 
 meets-requires : tie.Need-meets-requires
 meets-requires c κs = search rules
@@ -53,7 +53,7 @@ meets-requires-2 c κs = search rules
 returns-3 : tie.Need-returns-3
 returns-3 c =
     let x = c.before.before.before.before.before.args in
-    reached 0 (partRows x.w x.c.now) (front x.c.now (x.w / 4) _ false c.before.meets2.ensures (not-true _ c.if3.true))
+    reached 0 (part_rows x.w x.c.now) (front x.c.now (x.w / 4) _ false c.before.meets2.ensures (not-true _ c.if3.true))
     ∙ cube-parts x.w x.c.now (search rules)
 
 shared-slice-read-byte-fault : tie.Need-shared-slice-read-byte-fault
@@ -67,7 +67,7 @@ returns-4 c =
     let s = c.before.before.before in
     let x = s.before.before.before.before.before.args in
     c.before.byte-fault.ensures
-    ∙ reached 1 (partRows x.w x.c.now)
+    ∙ reached 1 (part_rows x.w x.c.now)
     (front x.c.now (x.w / 4) _ true s.before.meets2.ensures (not-false _ s.if3.false), λ e. c.if4.true (c.before.byte-fault.ensures ∙ e))
     ∙ cube-parts x.w x.c.now (search rules)
 
@@ -91,7 +91,7 @@ returns-5 c =
     let b = c.before.before.before in
     let s = b.before.before.before in
     let x = s.before.before.before.before.before.args in
-    reached 3 (partRows x.w x.c.now) (
+    reached 3 (part_rows x.w x.c.now) (
       front x.c.now (x.w / 4) _ true s.before.meets2.ensures (not-false _ s.if3.false),
       (sym b.before.byte-fault.ensures ∙ b.if4.false, (rest x.c.now (x.w / 4) _ true c.before.all-free.ensures c.if5.true, tt)),
     )
@@ -102,7 +102,7 @@ returns-6 c =
     let b = c.before.before.before in
     let s = b.before.before.before in
     let x = s.before.before.before.before.before.args in
-    reached 2 (partRows x.w x.c.now) (
+    reached 2 (part_rows x.w x.c.now) (
       front x.c.now (x.w / 4) _ true s.before.meets2.ensures (not-false _ s.if3.false),
       (sym b.before.byte-fault.ensures ∙ b.if4.false, rest x.c.now (x.w / 4) _ false c.before.all-free.ensures c.if5.false),
     )

@@ -4,7 +4,7 @@ use mathlib.Core.List.{List, [], ◌∷◌}
 use Prim.Native.Nat.{ℕ, ◌/◌, ◌%◌}
 use lib.ListN.{get_or, drop}
 use borrow.Author.Rules.{rules}
-use Rattle.format.specs.Bytes.{bits, anyBit}
+use Rattle.format.specs.Bytes.{bits, any_bit}
 use Rattle.cube.proofs.Parts.{last-part}
 use Rattle.cube.proofs.Headers.{none_after, some_after}
 use Rattle.cube.proofs.header.bits_after.Statement.{statement}
@@ -22,7 +22,7 @@ set-after-requires c κs = search rules
 returns-2 : tie.Need-returns-2
 returns-2 c =
     let x = c.before.before.before.before.before.args in
-    let e : c.before.set_after.result ≡ anyBit (drop (x.used % 8) (bits (get_or x.h.now (x.used / 8) 0 ∷ []))) = c.before.set_after.ensures in
+    let e : c.before.set_after.result ≡ any_bit (drop (x.used % 8) (bits (get_or x.h.now (x.used / 8) 0 ∷ []))) = c.before.set_after.ensures in
     rw (sym e ∙ c.if2.true) at (some_after x.used x.h.now (search rules))
 
 add-rest : tie.Need-overflow-add-rest
@@ -44,7 +44,7 @@ returns-3 : tie.Need-returns-3
 returns-3 c =
     let s = c.before.before.before in
     let x = s.before.before.before.before.args in
-    let rest = c.any-set.ensures ∙ ap (λ (l : List ℕ). anyBit (bits l)) (last-part x.h.now (x.used / 8)) in
+    let rest = c.any-set.ensures ∙ ap (λ (l : List ℕ). any_bit (bits l)) (last-part x.h.now (x.used / 8)) in
     rest ∙ rw (sym s.set_after.ensures ∙ c.before.before.if2.false) at (some_after x.used x.h.now (search rules))
 
 pub bits-after-spec : {M : Type 1} → statement M

@@ -4,13 +4,13 @@ use Prim.Native.Nat.{◌-◌, ◌≤◌}
 use native.Mathlib.Omega.{arith}
 use lib.ListN.{length, take}
 use borrow.Author.Rules.{rules}
-use Rattle.cube.specs.Pair.{andInto}
+use Rattle.cube.specs.Pair.{and_into}
 use Rattle.cube.proofs.Pairs.{into-turn, into-all}
 use Rattle.cube.proofs.pair.meet_into.Statement.{statement}
 use Rattle.cube.proofs.pair.meet_into.Tie as tie
 
 abbrev invariant-loop : tie.invariant-loop
-invariant-loop a b out₀ n i₀ out i = (i ≤ n) × (length out ≡ length out₀) × (out ≡ andInto (take i a) (take i b) out₀)
+invariant-loop a b out₀ n i₀ out i = (i ≤ n) × (length out ≡ length out₀) × (out ≡ and_into (take i a) (take i b) out₀)
 
 abbrev decreases-loop : tie.decreases-loop
 decreases-loop a b out₀ n i₀ out i = n - i

@@ -5,8 +5,8 @@ use mathlib.Core.List.{List}
 use mathlib.Core.Path.{◌≡◌, refl, ap, ap₂, ◌∙◌}
 use lib.ListN.{length, set, length-set}
 use borrow.Author.Rules.{rules}
-use Rattle.format.specs.Limits.{widest, widestCube}
-use Rattle.format.specs.Bytes.{headerLen, headerBytes}
+use Rattle.format.specs.Limits.{widest, widest_cube}
+use Rattle.format.specs.Bytes.{header_len, header_bytes}
 use Rattle.format.specs.Told.{over}
 use Rattle.cube.proofs.Showing.{whole, show-wide, show-short, show-turn, show-even, show-odd}
 use Rattle.cube.proofs.shown.show.Statement.{statement}
@@ -14,24 +14,24 @@ use Rattle.cube.proofs.shown.show.Tie as tie
 
 abbrev invariant-loop : tie.invariant-loop
 invariant-loop w out₀ piece bytes j₀ out j =
-    (length piece ≡ widestCube) × (j ≤ w / 8) × (length out ≡ length out₀) × (out ≡ over out₀ (headerBytes j (whole piece)))
+    (length piece ≡ widest_cube) × (j ≤ w / 8) × (length out ≡ length out₀) × (out ≡ over out₀ (header_bytes j (whole piece)))
 
 abbrev decreases-loop : tie.decreases-loop
 decreases-loop w out₀ piece bytes j₀ out j = w / 8 - j
 
 -- the header has room, and after the loop every whole byte of it is written
 narrow : (c : tie.At-loop invariant-loop decreases-loop) → let x = c.before.before.before.before.before.args in
-    (x.w ≤ widest) × (headerLen x.w ≤ length x.out.now)
+    (x.w ≤ widest) × (header_len x.w ≤ length x.out.now)
 narrow c = (c.before.before.before.if1.false, omega (arith, c.before.if2.false, c.before.before.header-len.ensures))
 
 ended : (c : tie.After-loop invariant-loop decreases-loop) →
     let x = c.before.before.before.before.before.before.args in
-    c.before.loop.out ≡ over x.out.now (headerBytes (x.w / 8) (whole x.t1))
+    c.before.loop.out ≡ over x.out.now (header_bytes (x.w / 8) (whole x.t1))
 ended c =
     let l = c.before.loop in
     let x = c.before.before.before.before.before.before.args in
     let e : l.j ≡ x.w / 8 = omega arith in
-    l.invariant.3 ∙ ap (λ (k : ℕ). over x.out.now (headerBytes k (whole x.t1))) e
+    l.invariant.3 ∙ ap (λ (k : ℕ). over x.out.now (header_bytes k (whole x.t1))) e
 
 returns : tie.Need-returns invariant-loop decreases-loop
 returns c = let x = c.before.before.args in show-wide x.t1 x.out.now x.w c.if1.true
@@ -45,7 +45,7 @@ returns-2 c =
     show-short x.t1 (search rules) x.out.now x.w c.before.before.if1.false (omega (arith, c.if2.true, c.before.header-len.ensures))
 
 loop-holds : tie.Need-loop-init invariant-loop decreases-loop
-unfolding headerBytes
+unfolding header_bytes
 loop-holds c = (search rules, omega arith, refl, refl)
 
 mul-shown-byte : tie.Need-overflow-mul-shown-byte invariant-loop decreases-loop

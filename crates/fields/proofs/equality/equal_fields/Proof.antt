@@ -4,17 +4,17 @@ use native.Mathlib.Omega.{arith}
 use mathlib.Core.Path.{◌≡◌, refl, sym, ap, ◌∙◌}
 use lib.ListN.{length}
 use borrow.Author.Rules.{rules}
-use Rattle.model.specs.Fields.{equalFields}
+use Rattle.model.specs.Fields.{equal_fields}
 use Rattle.answer.specs.Answer.{wrote}
 use Rattle.format.specs.Rows.{outcome}
-use Rattle.format.specs.Records.{differenceBytes}
+use Rattle.format.specs.Records.{difference_bytes}
 use Rattle.format.specs.Told.{over, writing}
-use Rattle.format.specs.Calls.{equal-fields}
+use Rattle.format.specs.Calls.{equal_fields}
 use Rattle.format.proofs.Reached.{reached, skipped}
 use Rattle.format.proofs.Lending.{silent-out, told-out}
 use Rattle.fields.proofs.Fielding.{pairs-few, equal-cuts, equal-bytes, equal-size}
 use Rattle.fields.proofs.Bounding.{FieldIn, field-refused, field-stands, field-again}
-use Rattle.fields.specs.Equality.{equalBytes}
+use Rattle.fields.specs.Equality.{equal_bytes}
 use Rattle.fields.proofs.equality.equal_fields.Statement.{statement}
 use Rattle.fields.proofs.equality.equal_fields.Tie as tie
 
@@ -35,7 +35,7 @@ module _ (c : tie.After-record-len) where
   abbrev start : tie.Start
   start = stand.before.before.before.before.before.before.before
 
-  size : let x = start.args in length (differenceBytes x.w (equalFields x.w x.p x.q x.n)) ≡ c.record-len.result
+  size : let x = start.args in length (difference_bytes x.w (equal_fields x.w x.p x.q x.n)) ≡ c.record-len.result
   size =
       let x = start.args in
       let n = few.before.pairs_of.ensures in
@@ -43,9 +43,9 @@ module _ (c : tie.After-record-len) where
       ∙ sym (rw (c.before.cube-len.ensures, n) at c.record-len.ensures)
 
   goes_on : let x = start.args in
-      outcome (writing (differenceBytes x.w (equalFields x.w x.p x.q x.n)) (length x.out.now))
-      ≡ equal-fields x.w x.p x.q x.n (length x.out.now)
-  unfolding equal-fields
+      outcome (writing (difference_bytes x.w (equal_fields x.w x.p x.q x.n)) (length x.out.now))
+      ≡ equal_fields x.w x.p x.q x.n (length x.out.now)
+  unfolding equal_fields
   goes_on =
       let x = start.args in
       let cuts = equal-cuts x.w x.p x.q x.n in
@@ -55,14 +55,14 @@ field-refusal-requires : tie.Need-field-refusal-requires
 field-refusal-requires c κs = search rules
 
 returns : tie.Need-returns
-unfolding equal-fields
+unfolding equal_fields
 returns c = silent-out refl (field-refused _ _ _ _ c.before.before.field-refusal.ensures _ c.if1.true)
 
 field-refusal-requires-2 : tie.Need-field-refusal-requires-2
 field-refusal-requires-2 c κs = search rules
 
 returns-2 : tie.Need-returns-2
-unfolding equal-fields
+unfolding equal_fields
 returns-2 c =
     silent-out refl
     (field-refused _ _ _ _ c.before.before.field-refusal2.ensures _ c.if2.true ∙ field-again _ _ _ _ _ (first c.before.before.before))
@@ -74,7 +74,7 @@ refused-requires : tie.Need-refused-requires
 refused-requires c κs = search rules
 
 returns-3 : tie.Need-returns-3
-unfolding equal-fields
+unfolding equal_fields
 returns-3 c =
     let s = c.before.before.before in
     let x = s.before.before.before.before.before.before.before.args in
@@ -123,12 +123,12 @@ returns-5 c =
     let x = (start d).args in
     let old = x.out.now in
     told-out old (c.wrote.ensures ∙ ap wrote (sym (size d)))
-    (p.put-equality.ensures ∙ ap (λ (n : ℕ). over old (equalBytes x.w x.p x.q n)) (few d).before.pairs_of.ensures
+    (p.put-equality.ensures ∙ ap (λ (n : ℕ). over old (equal_bytes x.w x.p x.q n)) (few d).before.pairs_of.ensures
     ∙ ap (over old) (sym (equal-bytes x.w x.p x.q x.n)))
     (reached 1 _ (rw (size d) p.before.before.if4.false, tt) ∙ goes_on d)
 
-pub equal-fields-spec : {M : Type 1} → statement M
-equal-fields-spec =
+pub equal_fields_spec : {M : Type 1} → statement M
+equal_fields_spec =
     tie.close
     (tie.spec
     field-refusal-requires

@@ -4,7 +4,7 @@ use native.Mathlib.Omega.{arith}
 use mathlib.Core.Path.{◌≡◌, ap, ◌∙◌}
 use lib.ListN.{length, length-take, length-drop}
 use borrow.Author.Rules.{rules}
-use Rattle.format.specs.Bytes.{cubeLen, code_of}
+use Rattle.format.specs.Bytes.{cube_len, code_of}
 use Rattle.cube.specs.Lay.{laid}
 use Rattle.cube.proofs.Laying.{part-back}
 use Rattle.fields.proofs.Fielding.{lent-bytes, apart-bytes}
@@ -41,7 +41,7 @@ returns c =
     let k = a.put-apart.auto.0 in
     let e = a.before.before.cube-len.ensures in
     let n = x.o + a.before.before.cube-len.result - x.o in
-    let l : length ys ≡ cubeLen x.w = k ∙ simp (length-take, length-drop) (omega (arith, e, z.requires.0)) in
+    let l : length ys ≡ cube_len x.w = k ∙ simp (length-take, length-drop) (omega (arith, e, z.requires.0)) in
     let b = lent-bytes x.out.now ys x.o n (λ i. (c.slice-known2.given i).fits) in
     let set = rw (← k) at a.put-apart.ensures in
     let same = apart-bytes x.w x.p x.q (code_of x.x) (code_of x.y) ys b l z.requires.1 z.requires.2 set in

@@ -7,8 +7,8 @@ use lib.ListN.{length, length-append}
 use borrow.Author.Rules.{rules}
 use Rattle.model.specs.Cube.{v0, v1}
 use Rattle.model.specs.Fields.{apart, unequal}
-use Rattle.format.specs.Bytes.{cubeLen, writeCube}
-use Rattle.format.specs.Records.{cubesBytes}
+use Rattle.format.specs.Bytes.{cube_len, write_cube}
+use Rattle.format.specs.Records.{cubes_bytes}
 use Rattle.format.specs.Told.{over}
 use Rattle.cube.proofs.Laying.{over-more}
 use Rattle.fields.proofs.Fielding.{cuts-more, cut-length, cuts-length, cuts-room}
@@ -17,7 +17,7 @@ use Rattle.fields.proofs.equality.put_cuts.Tie as tie
 
 abbrev invariant-loop : tie.invariant-loop
 invariant-loop out₀ w p q n size i₀ o₀ out i o =
-    (i ≤ n) × (o ≡ 2 * i * cubeLen w) × (length out ≡ length out₀) × (out ≡ over out₀ (cubesBytes (unequal w p q i)))
+    (i ≤ n) × (o ≡ 2 * i * cube_len w) × (length out ≡ length out₀) × (out ≡ over out₀ (cubes_bytes (unequal w p q i)))
 
 abbrev decreases-loop : tie.decreases-loop
 decreases-loop out₀ w p q n size i₀ o₀ out i o = n - i
@@ -28,7 +28,7 @@ room : (c : tie.In-loop invariant-loop decreases-loop)
 room c =
     let l = c.before in
     let z = l.before.before.before in
-    let more = cuts-room l.loop.i z.args.n (cubeLen z.args.w) (length z.args.out.now) c.loop-test.true z.requires.4 in
+    let more = cuts-room l.loop.i z.args.n (cube_len z.args.w) (length z.args.out.now) c.loop-test.true z.requires.4 in
     omega (arith, more, l.loop.invariant.1, l.before.cube-len.ensures)
 
 cube-len-requires : tie.Need-cube-len-requires invariant-loop decreases-loop
@@ -100,9 +100,9 @@ loop-again c =
     let o = l.loop.o in
     let v = l.loop.invariant in
     let e = l.before.cube-len.ensures in
-    let done = cubesBytes (unequal x.w x.p x.q i) in
-    let up = writeCube (apart x.w (x.p + i) (x.q + i) v0 v1) in
-    let down = writeCube (apart x.w (x.p + i) (x.q + i) v1 v0) in
+    let done = cubes_bytes (unequal x.w x.p x.q i) in
+    let up = write_cube (apart x.w (x.p + i) (x.q + i) v0 v1) in
+    let down = write_cube (apart x.w (x.p + i) (x.q + i) v1 v0) in
     let n : length done ≡ o = omega (arith, cuts-length x.w x.p x.q i, v.1) in
     let m : length (done ++ up) ≡ o + z = simp length-append (omega (arith, n, cut-length x.w (x.p + i) (x.q + i) v0 v1, e)) in
     let first : one.put-cut.new.0 ≡ over old (done ++ up) = one.put-cut.ensures ∙ rw v.3 (over-more old done up o n) in

@@ -8,9 +8,9 @@ use borrow.Rule.Slice.PartMut.{put_mid}
 use borrow.Author.Rules.{rules}
 use Rattle.model.specs.Cube.{free}
 use Rattle.model.specs.Fields.{unequal}
-use Rattle.format.specs.Limits.{widestCube, mostCuts}
-use Rattle.format.specs.Bytes.{cubeLen, writeCube}
-use Rattle.format.specs.Records.{cubesBytes, frontBytes}
+use Rattle.format.specs.Limits.{widest_cube, most_cuts}
+use Rattle.format.specs.Bytes.{cube_len, write_cube}
+use Rattle.format.specs.Records.{cubes_bytes, front_bytes}
 use Rattle.format.specs.Told.{over}
 use Rattle.cube.proofs.Laying.{over-more, part-back, behind-back}
 use Rattle.region.proofs.Writing.{front_length, record-len, front-put}
@@ -23,15 +23,15 @@ module _ (c : tie.After-front-len) where
   abbrev start : tie.Start
   start = c.before.before.before
 
-  few : 2 * start.args.n ≤ mostCuts
+  few : 2 * start.args.n ≤ most_cuts
   few = omega (arith, start.pre.3)
 
-  short : cubeLen start.args.w ≤ widestCube
+  short : cube_len start.args.w ≤ widest_cube
   short = omega (arith, start.pre.2)
 
   room : c.front-len.result + (2 * start.args.n + 1) * c.before.cube-len.result ≤ length start.args.out.now
   room =
-      let whole = rw (record-len (2 * start.args.n) (cubeLen start.args.w) few short) at start.pre.4 in
+      let whole = rw (record-len (2 * start.args.n) (cube_len start.args.w) few short) at start.pre.4 in
       omega (arith, rw (← c.before.cube-len.ensures) at whole, c.front-len.ensures)
 
 -- the state there, seen from where the base ends
@@ -97,13 +97,13 @@ returns c =
     let o = l.front-len.result in
     let q = l.before.cube-len.result in
     let old = x.out.now in
-    let front = frontBytes (2 * x.n) (cubeLen x.w) in
-    let base = writeCube (replicate x.w free) in
-    let cuts = cubesBytes (unequal x.w x.p x.q x.n) in
-    let fore : length front ≡ o = front_length (2 * x.n) (cubeLen x.w) ∙ sym l.front-len.ensures in
+    let front = front_bytes (2 * x.n) (cube_len x.w) in
+    let base = write_cube (replicate x.w free) in
+    let cuts = cubes_bytes (unequal x.w x.p x.q x.n) in
+    let fore : length front ≡ o = front_length (2 * x.n) (cube_len x.w) ∙ sym l.front-len.ensures in
     let first = f.put_front.new.0 in
     let put : first ≡ over old front =
-    rw e at f.put_front.ensures ∙ front-put (2 * x.n) (cubeLen x.w) (few l) (short l) old (omega (arith, room l, l.front-len.ensures)) in
+    rw e at f.put_front.ensures ∙ front-put (2 * x.n) (cube_len x.w) (few l) (short l) old (omega (arith, room l, l.front-len.ensures)) in
     let ys = b.fill.new.0 in
     let n = o + q - o in
     let size : length (take n (drop o first)) ≡ q = simp (length-take, length-drop) (omega (arith, f.put_front.auto.0, room l)) in

@@ -4,10 +4,10 @@ use native.Mathlib.Omega.{arith}
 use mathlib.Core.Path.{◌≡◌, refl, sym, ap, ◌∙◌}
 use lib.ListN.{length, take, length-take}
 use borrow.Author.Rules.{rules}
-use Rattle.model.specs.Fields.{prefixCube}
+use Rattle.model.specs.Fields.{prefix_cube}
 use Rattle.answer.specs.Answer.{wrote}
 use Rattle.format.specs.Rows.{outcome}
-use Rattle.format.specs.Bytes.{cubeLen, bits, writeCube}
+use Rattle.format.specs.Bytes.{cube_len, bits, write_cube}
 use Rattle.format.specs.Told.{over, writing}
 use Rattle.format.specs.Calls.{prefix}
 use Rattle.format.proofs.Reached.{reached, skipped}
@@ -43,11 +43,11 @@ module _ (c : tie.After-cube-len) where
       let value = bits-lent x.n x.m x.value.now _ c.before.before.before.bits-refusal.ensures c.before.if3.false in
       rw (length-bits x.value.now) (omega (arith, value.0, bounded.if2.left))
 
-  size : let x = start.args in length (writeCube (prefixCube x.w x.s x.m (bits x.value.now))) ≡ c.cube-len.result
+  size : let x = start.args in length (write_cube (prefix_cube x.w x.s x.m (bits x.value.now))) ≡ c.cube-len.result
   size = let x = start.args in prefix-size x.w x.s x.m (bits x.value.now) within covered ∙ sym c.cube-len.ensures
 
   goes_on : let x = start.args in
-      outcome (writing (writeCube (prefixCube x.w x.s x.m (bits x.value.now))) (length x.out.now))
+      outcome (writing (write_cube (prefix_cube x.w x.s x.m (bits x.value.now))) (length x.out.now))
       ≡ prefix x.w x.s x.n x.m x.value.now (length x.out.now)
   unfolding prefix
   goes_on =
@@ -124,7 +124,7 @@ returns-5 c =
     let ys = p.put-prefix.new.0 in
     let k = p.put-prefix.auto.0 in
     let room = p.before.before.if4.false in
-    let l : length ys ≡ cubeLen x.w = k ∙ simp length-take (omega (arith, room, d.cube-len.ensures)) in
+    let l : length ys ≡ cube_len x.w = k ∙ simp length-take (omega (arith, room, d.cube-len.ensures)) in
     let b = lent-bytes x.out.now ys 0 n (λ i. (c.before.slice-known2.given i).fits) in
     let same = prefix-bytes x.w x.s x.m (bits x.value.now) ys b l (within d) (covered d) (rw (← k) at p.put-prefix.ensures) in
     told-out x.out.now (c.wrote.ensures ∙ ap wrote (sym (size d)))

@@ -5,7 +5,7 @@ use mathlib.Core.Path.{◌≡◌, refl, sym, ap, ◌∙◌}
 use lib.ListN.{length, get_or, set}
 use borrow.Author.Rules.{rules}
 use Rattle.model.specs.Cube.{Code}
-use Rattle.model.specs.Fields.{bitCode, prefixCube}
+use Rattle.model.specs.Fields.{bit_code, prefix_cube}
 use Rattle.format.specs.Bytes.{bits, codes}
 use Rattle.format.proofs.Heading.{length-bits, bit_at}
 use Rattle.format.proofs.Coding.{codes-free}
@@ -14,7 +14,7 @@ use Rattle.fields.proofs.prefixes.put_prefix.Statement.{statement}
 use Rattle.fields.proofs.prefixes.put_prefix.Tie as tie
 
 abbrev invariant-loop : tie.invariant-loop
-invariant-loop c₀ s value m i₀ c i = (i ≤ m) × (length c ≡ length c₀) × (codes c ≡ prefixCube (4 * length c₀) s i (bits value))
+invariant-loop c₀ s value m i₀ c i = (i ≤ m) × (length c ≡ length c₀) × (codes c ≡ prefix_cube (4 * length c₀) s i (bits value))
 
 abbrev decreases-loop : tie.decreases-loop
 decreases-loop c₀ s value m i₀ c i = m - i
@@ -71,7 +71,7 @@ loop-again c =
     let v = l.loop.invariant in
     let h = p.before.before.before.loop-test.true in
     let b = x.value.now in
-    let bit = bit-code (get_or b (i / 8) 0 / 2 ^ (7 - i % 8) % 2) (omega arith) ∙ ap bitCode (sym (bit_at b i (omega (arith, z.requires.1, h)))) in
+    let bit = bit-code (get_or b (i / 8) 0 / 2 ^ (7 - i % 8) % 2) (omega arith) ∙ ap bit_code (sym (bit_at b i (omega (arith, z.requires.1, h)))) in
     let covered : i < length (bits b) = rw (length-bits b) (omega (arith, z.requires.1, h)) in (
       omega arith,
       p.set_code.auto.0 ∙ v.1,

@@ -7,7 +7,7 @@ use mathlib.Core.Path.{◌≡◌, sym, ◌∙◌}
 use lib.ListN.{length}
 use borrow.Author.Rules.{rules}
 use Rattle.format.proofs.Recording.{Record, record_of}
-use Rattle.format.specs.Records.{next_at, width_of, differenceFault}
+use Rattle.format.specs.Records.{next_at, width_of, difference_fault}
 use Rattle.region.proofs.Fronts.{front-base, front-next, front-stands}
 use Rattle.region.proofs.Reading.{Asking, asking, asked-turned, asked-width, asked-refused, asked-ended}
 use Rattle.region.proofs.asking.ask_file.Statement.{statement}
@@ -22,7 +22,7 @@ decreases-loop s h w wrong q at₀ n₀ holder₀ at n holder = length s - at
 -- where a turn goes on, the record here is accepted
 sound : (c : tie.Else2 invariant-loop decreases-loop)
     → let a = c.before.before.before.before.loop in let s = c.before.before.before.before.before.before.before.before.before.before.before.before.args.s.now in
-    differenceFault false (width_of s) a.n s a.at ≡ 0
+    difference_fault false (width_of s) a.n s a.at ≡ 0
 sound c =
     let width-of = c.before.before.before.before.before.before.before.before.before.width-of in
     rw (← width-of.ensures.0) (sym c.before.before.read-record.ensures.number ∙ c.if2.false)

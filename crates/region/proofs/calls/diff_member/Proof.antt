@@ -3,13 +3,13 @@ use mathlib.Core.Bool.{true}
 use mathlib.Core.List.{[], ◌∷◌}
 use mathlib.Core.Path.{ap, ◌∙◌}
 use borrow.Author.Rules.{rules}
-use Rattle.model.specs.Difference.{firstHolder}
+use Rattle.model.specs.Difference.{first_holder}
 use Rattle.format.specs.Rows.{last}
-use Rattle.format.specs.Bytes.{readHeader}
-use Rattle.format.specs.Records.{differenceAt}
-use Rattle.format.specs.Told.{lentHeader, belonging, Told, silent}
+use Rattle.format.specs.Bytes.{read_header}
+use Rattle.format.specs.Records.{difference_at}
+use Rattle.format.specs.Told.{lent_header, belonging, Told, silent}
 use Rattle.format.proofs.Recording.{Record, record_of}
-use Rattle.format.specs.Calls.{diff-member}
+use Rattle.format.specs.Calls.{diff_member}
 use Rattle.format.proofs.Lending.{one-refused, one_lent}
 use Rattle.region.proofs.Membership.{diff-told}
 use Rattle.region.proofs.Fronts.{front-base, front-stands}
@@ -26,11 +26,11 @@ one-refusal-requires : tie.Need-one-refusal-requires
 one-refusal-requires c κs = search rules
 
 returns : tie.Need-returns
-unfolding diff-member
+unfolding diff_member
 returns c =
     let x = c.before.before.before.before.before.args in
-    let holder = firstHolder (differenceAt x.w x.s.now 0 ∷ []) (readHeader x.w x.h.now) in
-    let k = lentHeader x.w x.h.now (last (belonging holder)) in
+    let holder = first_holder (difference_at x.w x.s.now 0 ∷ []) (read_header x.w x.h.now) in
+    let k = lent_header x.w x.h.now (last (belonging holder)) in
     ap (λ (t : Told). t.answer) (one-refused x.w x.s.now _ c.before.before.one-refusal.ensures silent k c.if1.true)
 
 spelled-requires : tie.Need-spelled-requires
@@ -64,8 +64,8 @@ returns-2 c =
     c.told.ensures
     ∙ ap (λ (t : Told). t.answer) (diff-told x.w x.s.now x.h.now _ _ _ one-refusal.ensures e.if1.false spelled.ensures held)
 
-pub diff-member-spec : {M : Type 1} → statement M
-diff-member-spec =
+pub diff_member_spec : {M : Type 1} → statement M
+diff_member_spec =
     tie.close
     (tie.spec
     one-refusal-requires

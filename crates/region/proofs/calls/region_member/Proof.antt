@@ -3,7 +3,7 @@ use mathlib.Core.Path.{sym, ap, ◌∙◌}
 use borrow.Author.Rules.{rules}
 use Rattle.format.proofs.Lending.{file-refused}
 use Rattle.format.specs.Told.{Told}
-use Rattle.format.specs.Calls.{region-member}
+use Rattle.format.specs.Calls.{region_member}
 use Rattle.region.proofs.Membership.{region-told}
 use Rattle.region.proofs.calls.region_member.Statement.{statement}
 use Rattle.region.proofs.calls.region_member.Tie as tie
@@ -21,7 +21,7 @@ fault-requires : tie.Need-fault-requires
 fault-requires c κs = search rules
 
 returns : tie.Need-returns
-unfolding region-member
+unfolding region_member
 returns c =
     let ask-file = c.before.before.before.before.ask-file in
     let x = c.before.before.before.before.before.before.before.before.before.args in
@@ -39,8 +39,8 @@ returns-2 c =
     c.told.ensures
     ∙ ap (λ (t : Told). t.answer) (region-told _ _ _ _ a (sym a.file.number ∙ c.before.if1.false) spelled.ensures)
 
-pub region-member-spec : {M : Type 1} → statement M
-region-member-spec =
+pub region_member_spec : {M : Type 1} → statement M
+region_member_spec =
     tie.close
     (tie.spec
     spelled-requires

@@ -2,12 +2,12 @@
 use mathlib.Core.Path.{◌≡◌, ap, ◌∙◌}
 use borrow.Author.Rules.{rules}
 use Rattle.format.specs.Rows.{last, outcome}
-use Rattle.format.specs.Told.{Told, lentHeader, belonging}
+use Rattle.format.specs.Told.{Told, lent_header, belonging}
 use Rattle.format.proofs.Reached.{reached}
 use Rattle.format.proofs.Lending.{bits-refused, bits-passed}
 use Rattle.region.specs.declared.member.Holder.{Holder}
 use Rattle.region.specs.declared.member.Holder.TheVariants.{Unheld, Held}
-use Rattle.region.specs.Asked.{holderOf}
+use Rattle.region.specs.Asked.{holder_of}
 use Rattle.region.proofs.calls.told.Statement.{statement}
 use Rattle.region.proofs.calls.told.Tie as tie
 
@@ -17,7 +17,7 @@ bits-refusal-requires c κs = search rules
 returns : tie.Need-returns
 returns c =
     let x = c.before.before.before.before.args in
-    let k = last (belonging (holderOf x.holder)) in
+    let k = last (belonging (holder_of x.holder)) in
     ap (λ (t : Told). t.answer) (bits-refused x.w x.w x.h.now _ c.before.before.bits-refusal.ensures k c.if1.true)
 
 enum_told : tie.Need-enum-told
@@ -34,10 +34,10 @@ holding-requires c κs = search rules
 
 -- what is told where the header is well formed, by the holder alone
 passed : (c : tie.Else1) (x : Holder) → let a = c.before.before.before.before.args in
-    (belonging (holderOf x)).answer ≡ (outcome (lentHeader a.w a.h.now (last (belonging (holderOf x))))).answer
+    (belonging (holder_of x)).answer ≡ (outcome (lent_header a.w a.h.now (last (belonging (holder_of x))))).answer
 passed c x =
     let a = c.before.before.before.before.args in
-    let k = last (belonging (holderOf x)) in
+    let k = last (belonging (holder_of x)) in
     ap (λ (t : Told). t.answer)
     (reached 0 k tt ∙ bits-passed a.w a.w a.h.now _ c.before.before.bits-refusal.ensures k c.if1.false)
 

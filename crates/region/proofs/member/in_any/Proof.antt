@@ -6,12 +6,12 @@ use lib.ListN.{length}
 use borrow.Author.Rules.{rules}
 use Rattle.region.proofs.Cubing.{room}
 use Rattle.region.proofs.Held.{any_none, any_here, any_next}
-use Rattle.region.specs.Asked.{anyIn}
+use Rattle.region.specs.Asked.{any_in}
 use Rattle.region.proofs.member.in_any.Statement.{statement}
 use Rattle.region.proofs.member.in_any.Tie as tie
 
 abbrev invariant-loop : tie.invariant-loop
-invariant-loop s at q k h a₀ left₀ a left = (a + left * q ≤ length s) × (anyIn q h s a left ≡ anyIn q h s at k)
+invariant-loop s at q k h a₀ left₀ a left = (a + left * q ≤ length s) × (any_in q h s a left ≡ any_in q h s at k)
 
 abbrev decreases-loop : tie.decreases-loop
 decreases-loop s at q k h a₀ left₀ a left = left

@@ -1,7 +1,7 @@
 -- `region::member::in_cube` meets its contract.
 use borrow.Author.Rules.{rules}
 use native.Mathlib.Nat.{sub-zero, add-sub_cancel_left}
-use Rattle.region.specs.Asked.{cubeIn}
+use Rattle.region.specs.Asked.{cube_in}
 use Rattle.region.proofs.member.in_cube.Statement.{statement}
 use Rattle.region.proofs.member.in_cube.Tie as tie
 
@@ -30,7 +30,7 @@ lies-in-requires : tie.Need-lies-in-requires
 lies-in-requires c κs = search rules
 
 returns : tie.Need-returns
-unfolding cubeIn
+unfolding cube_in
 returns c = rw (sub-zero, add-sub_cancel_left) at c.lies_in.ensures
 
 pub in-cube-spec : {M : Type 1} → statement M

@@ -44,7 +44,7 @@ use denote.Triple.Table.{entered, cited}
 use denote.Triple.Walked.{says, Stays, stay_none, walk_of, Goes-none, Walks, ends_at, walked, walk_Meets}
 use denote.Exit.{yes}
 use denote.Triple.Clauses.{ensured, lasts}
-use Rattle.format.specs.Calls.{read-on}
+use Rattle.format.specs.Calls.{read_on}
 use Rattle.format.specs.Calls as calls
 use Rattle.region.specs.Viewing.{stepped}
 use Rattle.region.specs.declared.reader.Reader.{Reader}
@@ -58,7 +58,7 @@ use Rattle.region.specs.contracts.steps.Step as S
 use Rattle.region.proofs.steps.Step.TheLaws as S'
 use Rattle.region.specs.contracts.steps.read_on as on
 use Rattle.region.proofs.steps.read_on.Symbol as on-def
-use Rattle.region.proofs.steps.read_on.Symbol.{name as #region·read-on}
+use Rattle.region.proofs.steps.read_on.Symbol.{name as #region·read_on}
 use Rattle.region.proofs.steps.read_on.Met as on-thm
 use Rattle.region.specs.contracts.reader.step_on.Key.{name as #region·step-on}
 use Rattle.region.specs.contracts.reader.step_on as step
@@ -91,7 +91,7 @@ module _ {M : Type 1} {𝓤 : Ura M} (𝓛 : Logic 𝓤) (mem : Memory → SProp
   v = slice_val d.file.ref_ptr (length d.file.now)
 
   abbrev found : calls.Step
-  found = read-on d.file.now d.place
+  found = read_on d.file.now d.place
 
   -- the reader with the next place, and the result
   abbrev onward : Step → Reader
@@ -156,7 +156,7 @@ module _ {M : Type 1} {𝓤 : Ura M} (𝓛 : Logic 𝓤) (mem : Memory → SProp
   typed : (r : Step) (u : Val) → Is S.the_row r (u ∷ []) → Holds (has_ty S'.mir (S'.lowered r)) × WT (S'.lowered r)
   typed r u is = subst (λ (x : Val). Holds (has_ty S'.mir x) × WT x) (ap only ((S'.lowers).val_is r _ is)) ((LL.lawful S.the_type S'.the_laws 𝓛).typed r _ is).0
 
-  module _ (C : Calls 𝓤 H) (Λ : Loops 𝓤 H) (fm : FmC 𝓤 H 𝓛.laws C) (known : Triple 𝓤 (C #region·read-on) (ReadOn 𝓛 mem run)) where
+  module _ (C : Calls 𝓤 H) (Λ : Loops 𝓤 H) (fm : FmC 𝓤 H 𝓛.laws C) (known : Triple 𝓤 (C #region·read_on) (ReadOn 𝓛 mem run)) where
     walk : Holds (has_ty (T'.mir (named 0)) mach) × WT mach → ent 𝓤 (on_entry 𝓛 step.signature (κ, tt) (q, tt) (d, tt) (mach ∷ [], tt)) (WpFn 𝓤 H C Λ code.function (mach ∷ []) Post)
     walk wt =
         qed 𝓛 (raw (on_entry 𝓛 step.signature (κ, tt) (q, tt) (d, tt) (mach ∷ [], tt)) ∷ []) ∵ enter ! C Λ code.function (mach ∷ []) _ $
@@ -180,13 +180,13 @@ module _ {M : Type 1} {𝓤 : Ura M} (𝓛 : Logic 𝓤) (mem : Memory → SProp
 module _ {M : Type 1} {𝓤 : Ura M} (𝓛 : Logic 𝓤) (mem : Memory → SProp 𝓤) (run : Routine → Fun 𝓤) where
   open 𝓛 use {H}
 
-  step-on-walks : (C : Calls 𝓤 H) (Λ : Loops 𝓤 H) → FmC 𝓤 H 𝓛.laws C → Triple 𝓤 (C #region·read-on) (ReadOn 𝓛 mem run)
+  step-on-walks : (C : Calls 𝓤 H) (Λ : Loops 𝓤 H) → FmC 𝓤 H 𝓛.laws C → Triple 𝓤 (C #region·read_on) (ReadOn 𝓛 mem run)
       → Walks 𝓛 step.ended stayed (WpFn 𝓤 H C Λ code.function) (step.clauses 𝓛 mem run)
   step-on-walks C Λ fm known = walked 𝓛 step.ended stayed (step.clauses 𝓛 mem run) (WpFn 𝓤 H C Λ code.function) (λ κs. (LL.vals (T.the_type (named_lft 1 0 tt κs)) (T'.the_laws (named_lft 1 0 tt κs)), tt)) (λ κs. (LL.tells (T.the_type (named_lft 1 0 tt κs)) (T'.the_laws (named_lft 1 0 tt κs)), tt))
       (λ κs qs bounds a g are. via 𝓤 _ (fst∗ 𝓤 _ (emp 𝓤)) (walk 𝓛 mem run κs.0 qs.0 a.0 C Λ fm known ((LL.lawful (T.the_type (named_lft 1 0 tt κs)) (T'.the_laws (named_lft 1 0 tt κs)) 𝓛).typed a.0 _ are.0).0))
 
 step-on-meets : {M : Type 1} {𝓤 : Ura M} (𝓛 : Logic 𝓤) (mem : Memory → SProp 𝓤) (run : Routine → Fun 𝓤) (𝓣 : Tables 𝓤 𝓛.H)
-    → Triple 𝓤 (𝓣.C #region·read-on) (ReadOn 𝓛 mem run)
+    → Triple 𝓤 (𝓣.C #region·read_on) (ReadOn 𝓛 mem run)
     → Meets 𝓛 step.signature (WpFn 𝓤 𝓛.H 𝓣.C 𝓣.Λ code.function) (step.spec 𝓛 mem run)
 step-on-meets {𝓤 = 𝓤} 𝓛 mem run 𝓣 known = walk_Meets 𝓛 step.ended stayed (Goes-none 𝓛 1 B yes (λ κs x f. refl), tt) (step.clauses 𝓛 mem run) (WpFn 𝓤 𝓛.H 𝓣.C 𝓣.Λ code.function) (WpFn-mono 𝓤 𝓛.H 𝓛.laws 𝓣 code.function)
     (step-on-walks 𝓛 mem run 𝓣.C 𝓣.Λ (fm_of 𝓤 𝓛.H 𝓛.laws 𝓣) known)
@@ -197,4 +197,4 @@ step-on-spec 𝓤 𝓛 𝓜 𝓡 =
     entered 𝓤 𝓛.H (triple_of 𝓛 step.signature (step.spec 𝓛 𝓜.mem 𝓡.run))
     (tables 𝓤 𝓛.H 𝓜 𝓡 code.env).C (tables 𝓤 𝓛.H 𝓜 𝓡 code.env).Λ #region·step-on code.function (code.unfolded 𝓤 𝓛.H 𝓜 𝓡)
     (step-on-meets 𝓛 𝓜.mem 𝓡.run (tables_of 𝓤 𝓛.H 𝓜 (tables 𝓤 𝓛.H 𝓜 𝓡 code.env))
-    (cited 𝓤 𝓛.H (ReadOn 𝓛 𝓜.mem 𝓡.run) 𝓜 𝓡 code.env #region·read-on on-def.routine code.calls-region::steps::read-on (on-thm.met 𝓤 𝓛 𝓜 𝓡)))
+    (cited 𝓤 𝓛.H (ReadOn 𝓛 𝓜.mem 𝓡.run) 𝓜 𝓡 code.env #region·read_on on-def.routine code.calls-region::steps::read_on (on-thm.met 𝓤 𝓛 𝓜 𝓡)))

@@ -5,14 +5,14 @@ use native.Mathlib.Nat.{add-sub_cancel_left}
 use Prim.Native.Nat.{◌+◌, ◌-◌, ◌*◌, ◌≤◌}
 use mathlib.Core.Path.{◌≡◌, refl, ◌∙◌}
 use lib.ListN.{length, take, drop}
-use Rattle.format.specs.Bytes.{cubeLen, cubeFault}
-use Rattle.format.specs.Records.{cubesFault}
+use Rattle.format.specs.Bytes.{cube_len, cube_fault}
+use Rattle.format.specs.Records.{cubes_fault}
 use Rattle.region.proofs.Cubing.{room, cubes-none, cubes-bad, cubes-next}
 use Rattle.region.proofs.record.cubes_fault.Statement.{statement}
 use Rattle.region.proofs.record.cubes_fault.Tie as tie
 
 abbrev invariant-loop : tie.invariant-loop
-invariant-loop s at w k q a₀ left₀ a left = (a + left * cubeLen w ≤ length s) × (cubesFault w s a left ≡ cubesFault w s at k)
+invariant-loop s at w k q a₀ left₀ a left = (a + left * cube_len w ≤ length s) × (cubes_fault w s a left ≡ cubes_fault w s at k)
 
 abbrev decreases-loop : tie.decreases-loop
 decreases-loop s at w k q a₀ left₀ a left = left
@@ -21,13 +21,13 @@ decreases-loop s at w k q a₀ left₀ a left = left
 fits : (c : tie.In-loop invariant-loop decreases-loop)
     → let a = c.before.loop in
     let p = c.before.before.before.before.args in
-    (a.a + cubeLen p.w ≤ length p.s.now) × (a.a + cubeLen p.w + (a.left - 1) * cubeLen p.w ≤ length p.s.now)
+    (a.a + cube_len p.w ≤ length p.s.now) × (a.a + cube_len p.w + (a.left - 1) * cube_len p.w ≤ length p.s.now)
 fits c = room c.before.loop.a c.before.loop.left _ _ c.loop-test.true c.before.loop.invariant.0
 
 -- what was found is the fault of the cube here
 found : (c : tie.After-cube-fault invariant-loop decreases-loop)
     → let p = c.before.before.before.before.before.before.args in
-    c.cube-fault.result ≡ cubeFault p.w (take (cubeLen p.w) (drop c.before.before.before.loop.a p.s.now))
+    c.cube-fault.result ≡ cube_fault p.w (take (cube_len p.w) (drop c.before.before.before.loop.a p.s.now))
 found c = rw (← c.before.before.before.before.cube-len.ensures) (rw add-sub_cancel_left at c.cube-fault.ensures)
 
 cube-len-requires : tie.Need-cube-len-requires invariant-loop decreases-loop

@@ -4,9 +4,9 @@ use native.Mathlib.Omega.{arith}
 use native.Mathlib.Nat.{mul-le-mul}
 use mathlib.Core.Path.{◌≡◌, refl}
 use borrow.Author.Rules.{rules}
-use Rattle.format.specs.Records.{frameRows, numberRows, countAt}
-use Rattle.format.specs.Bytes.{cubeLen}
-use Rattle.format.specs.Limits.{mostCuts, differenceKind}
+use Rattle.format.specs.Records.{frame_rows, number_rows, count_at}
+use Rattle.format.specs.Bytes.{cube_len}
+use Rattle.format.specs.Limits.{most_cuts, difference_kind}
 use Rattle.format.proofs.Lending.{frame_refused, frame-clean}
 use Rattle.format.proofs.Reached.{Past, rest, reached}
 use Rattle.region.proofs.Fronts.{after-alone, after-others}
@@ -14,16 +14,16 @@ use Rattle.region.proofs.record.numbers_fault.Statement.{statement}
 use Rattle.region.proofs.record.numbers_fault.Tie as tie
 
 -- where the length and the kind pass, each test of them fails
-passed : (c : tie.Else1) → let p = c.before.before.before.args in Past 0 (frameRows differenceKind p.s.now p.at)
-passed c = let p = c.before.before.before.args in frame-clean differenceKind p.s.now p.at _ c.before.frame-fault.ensures c.if1.false
+passed : (c : tie.Else1) → let p = c.before.before.before.args in Past 0 (frame_rows difference_kind p.s.now p.at)
+passed c = let p = c.before.before.before.args in frame-clean difference_kind p.s.now p.at _ c.before.frame-fault.ensures c.if1.false
 
 -- the product is small, and is that of the record
-small : (c : tie.Else5) → let x = c.before.before.before.before.before.before.before.before.before.before.args in (x.front.cuts + 1) * c.before.cube-len.result ≤ (mostCuts + 1) * 65535
-small c = mul-le-mul {n₂ = mostCuts + 1} {m₂ = 65535} (omega arith) (omega arith)
+small : (c : tie.Else5) → let x = c.before.before.before.before.before.before.before.before.before.before.args in (x.front.cuts + 1) * c.before.cube-len.result ≤ (most_cuts + 1) * 65535
+small c = mul-le-mul {n₂ = most_cuts + 1} {m₂ = 65535} (omega arith) (omega arith)
 
 claimed : (c : tie.Else5)
     → let x = c.before.before.before.before.before.before.before.before.before.before.args in
-    (x.front.cuts + 1) * c.before.cube-len.result ≡ (countAt x.s.now x.at + 1) * cubeLen x.w
+    (x.front.cuts + 1) * c.before.cube-len.result ≡ (count_at x.s.now x.at + 1) * cube_len x.w
 claimed c =
     let given = c.before.before.before.before.before.before.before.before.before.before.requires in
     rw (given.0.cuts, c.before.cube-len.ensures) refl
@@ -34,7 +34,7 @@ frame-fault-requires c κs = search rules
 returns : tie.Need-returns
 returns c =
     let p = c.before.before.before.args in
-    frame_refused differenceKind p.s.now p.at _ c.before.frame-fault.ensures (rest 4 (numberRows p.alone p.w p.n p.s.now p.at))
+    frame_refused difference_kind p.s.now p.at _ c.before.frame-fault.ensures (rest 4 (number_rows p.alone p.w p.n p.s.now p.at))
     c.if1.true
 
 returns-2 : tie.Need-returns-2

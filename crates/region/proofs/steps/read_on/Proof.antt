@@ -5,8 +5,8 @@ use lib.ListN.{length}
 use borrow.Author.Rules.{rules}
 use Rattle.format.proofs.Reached.{reached}
 use Rattle.format.proofs.Recording.{record_of}
-use Rattle.format.specs.Calls.{start_of, read-on}
-use Rattle.format.specs.Records.{width_of, widthFault, differenceFault}
+use Rattle.format.specs.Calls.{start_of, read_on}
+use Rattle.format.specs.Records.{width_of, width_fault, difference_fault}
 use Rattle.region.proofs.Fronts.{front-next}
 use Rattle.region.proofs.steps.read_on.Statement.{statement}
 use Rattle.region.proofs.steps.read_on.Tie as tie
@@ -14,12 +14,12 @@ use Rattle.region.proofs.steps.read_on.Tie as tie
 -- what was found is the fault of the record where the step looks
 found : (c : tie.After-read-record)
     → let p = c.before.before.before.before.before.before.before.args in
-    c.read-record.result.number ≡ differenceFault false (width_of p.s.now) 0 p.s.now (start_of p.s.now p.place)
+    c.read-record.result.number ≡ difference_fault false (width_of p.s.now) 0 p.s.now (start_of p.s.now p.place)
 found c = rw (c.before.width-of.ensures.0, c.before.before.before.start_of_lem.ensures) at c.read-record.ensures.number
 
 -- kind 1 is accepted, and the step does not look at the end
 begun : (c : tie.Else2)
-    → let p = c.before.before.before.before.before.args in (widthFault p.s.now ≡ 0) × (start_of p.s.now p.place ≡ length p.s.now → ⊥)
+    → let p = c.before.before.before.before.before.args in (width_fault p.s.now ≡ 0) × (start_of p.s.now p.place ≡ length p.s.now → ⊥)
 begun c = (sym c.before.before.before.width-fault.ensures ∙ c.before.before.if1.false, λ z. c.if2.false (c.before.start_of_lem.ensures ∙ z))
 
 width-fault-requires : tie.Need-width-fault-requires
@@ -29,7 +29,7 @@ fault-requires : tie.Need-fault-requires
 fault-requires c κs = search rules
 
 returns : tie.Need-returns
-unfolding read-on
+unfolding read_on
 returns c = rw (c.fault.ensures, c.before.before.width-fault.ensures) (reached 0 _ (λ z. c.before.if1.true (c.before.before.width-fault.ensures ∙ z)))
 
 start-of-requires : tie.Need-start-of-requires
@@ -39,7 +39,7 @@ no-requires : tie.Need-no-requires
 no-requires c κs = search rules
 
 returns-2 : tie.Need-returns-2
-unfolding read-on
+unfolding read_on
 returns-2 c =
     let width-fault = c.before.before.before.before.width-fault in
     rw c.no.ensures
@@ -55,7 +55,7 @@ fault-requires-2 : tie.Need-fault-requires-2
 fault-requires-2 c κs = search rules
 
 returns-3 : tie.Need-returns-3
-unfolding read-on
+unfolding read_on
 returns-3 c =
     let start_of_lem = c.before.before.before.before.before.before.start_of_lem in
     let d = c.before.before.before in
@@ -66,7 +66,7 @@ placed-requires : tie.Need-placed-requires
 placed-requires c κs = search rules
 
 returns-4 : tie.Need-returns-4
-unfolding read-on
+unfolding read_on
 returns-4 c =
     let start_of_lem = c.before.before.before.before.before.before.start_of_lem in
     let d = c.before.before.before in
@@ -75,8 +75,8 @@ returns-4 c =
     let next = front-next (record_of false _ 0 _ _ z) (rw start_of_lem.ensures at d.read-record.ensures.front) in
     rw (c.placed.ensures, start_of_lem.ensures, next) (reached 3 _ (b.0, (b.1, (z, tt))))
 
-pub read-on-spec : {M : Type 1} → statement M
-read-on-spec =
+pub read_on_spec : {M : Type 1} → statement M
+read_on_spec =
     tie.close
     (tie.spec
     width-fault-requires

@@ -5,7 +5,7 @@ use mathlib.Core.Path.{◌≡◌, ap, ◌∙◌}
 use lib.ListN.{length}
 use borrow.Author.Rules.{rules}
 use Rattle.format.specs.Records.{width_of}
-use Rattle.format.specs.Bytes.{cubeLen}
+use Rattle.format.specs.Bytes.{cube_len}
 use Rattle.region.proofs.Viewed.{view-fault, view-none, view-beyond, view-cube, view-room}
 use Rattle.region.proofs.views.stretch_of.Statement.{statement}
 use Rattle.region.proofs.views.stretch_of.Tie as tie
@@ -13,10 +13,10 @@ use Rattle.region.proofs.views.stretch_of.Tie as tie
 -- where the call goes on to the end, the difference has such a cube, and the cube lies within the file
 size : (c : tie.After-yes)
     → let s = c.before.before.before.before.before.before.before.before.before.before.before.before.args.s.now in
-    c.before.cube-len.result ≡ cubeLen (width_of s)
+    c.before.cube-len.result ≡ cube_len (width_of s)
 size c =
     let check-file = c.before.before.before.before.before.before.before.before.before.before.check-file in
-    c.before.cube-len.ensures ∙ ap cubeLen check-file.ensures.width
+    c.before.cube-len.ensures ∙ ap cube_len check-file.ensures.width
 
 room : (c : tie.After-yes)
     → let x = c.before.before.before.before.before.before.before.before.before.before.before.before.args in

@@ -3,30 +3,30 @@ use Prim.Native.Nat.{◌+◌, ◌*◌, ◌≤◌}
 use native.Mathlib.Omega.{arith}
 use mathlib.Core.Path.{◌∙◌}
 use borrow.Author.Rules.{rules}
-use Rattle.format.specs.Records.{frontLen, frontBytes}
-use Rattle.format.specs.Limits.{widestCube, mostCuts}
+use Rattle.format.specs.Records.{front_len, front_bytes}
+use Rattle.format.specs.Limits.{widest_cube, most_cuts}
 use Rattle.format.proofs.Reached.{reached}
 use Rattle.region.proofs.Writing.{cubes-few}
-use Rattle.region.specs.Writing.{frontRows, putFront}
+use Rattle.region.specs.Writing.{front_rows, put_front}
 use Rattle.region.proofs.writer.put_front.Statement.{statement}
 use Rattle.region.proofs.writer.put_front.Tie as tie
 
-few : (c : tie.After-front-len) → let x = c.before.before.before.before.args in (x.k + 1) * x.q ≤ (mostCuts + 1) * widestCube
+few : (c : tie.After-front-len) → let x = c.before.before.before.before.args in (x.k + 1) * x.q ≤ (most_cuts + 1) * widest_cube
 few c = let x = c.before.before.before.before.args in cubes-few x.k x.q c.before.before.if1.false c.before.if2.false
 
 returns : tie.Need-returns
-unfolding putFront
-returns c = let x = c.before.before.args in reached 0 (frontRows x.out.now x.k x.q) c.if1.true
+unfolding put_front
+returns c = let x = c.before.before.args in reached 0 (front_rows x.out.now x.k x.q) c.if1.true
 
 returns-2 : tie.Need-returns-2
-unfolding putFront
-returns-2 c = let x = c.before.before.before.args in reached 1 (frontRows x.out.now x.k x.q) (c.before.if1.false, c.if2.true)
+unfolding put_front
+returns-2 c = let x = c.before.before.before.args in reached 1 (front_rows x.out.now x.k x.q) (c.before.if1.false, c.if2.true)
 
 front-len-requires : tie.Need-front-len-requires
 front-len-requires c κs = search rules
 
 sub-n : tie.Need-overflow-sub-n
-unfolding frontLen
+unfolding front_len
 sub-n c = search rules
 
 add-n : tie.Need-overflow-add-n
@@ -36,7 +36,7 @@ mul-n : tie.Need-overflow-mul-n
 mul-n c = omega (arith, few c)
 
 add-n-2 : tie.Need-overflow-add-n-2
-unfolding frontLen
+unfolding front_len
 add-n-2 c = omega (arith, few c)
 
 cast-t14 : tie.Need-overflow-cast-t14
@@ -61,12 +61,12 @@ same_length : tie.Need-same-length
 same_length c = search rules
 
 returns-3 : tie.Need-returns-3
-unfolding putFront frontLen frontBytes
+unfolding put_front front_len front_bytes
 returns-3 c =
     let f = c.before.before.before.before.before in
     let x = f.before.before.before.before.args in
     c.before.before.put.ensures
-    ∙ rw f.front-len.ensures (reached 2 (frontRows x.out.now x.k x.q) (f.before.before.if1.false, (f.before.if2.false, tt)))
+    ∙ rw f.front-len.ensures (reached 2 (front_rows x.out.now x.k x.q) (f.before.before.if1.false, (f.before.if2.false, tt)))
 
 pub put-front-spec : {M : Type 1} → statement M
 put-front-spec =

@@ -1,22 +1,22 @@
 -- `region::writer::put_record` meets its contract.
 use native.Mathlib.Omega.{arith}
 use borrow.Author.Rules.{rules}
-use Rattle.format.specs.Records.{frontLen}
+use Rattle.format.specs.Records.{front_len}
 use Rattle.format.proofs.Reached.{reached}
 use Rattle.region.proofs.Writing.{cubes-few, record-few, record-short, record-done}
-use Rattle.region.specs.Writing.{putRows, putRecord}
+use Rattle.region.specs.Writing.{put_rows, put_record}
 use Rattle.region.proofs.writer.put_record.Statement.{statement}
 use Rattle.region.proofs.writer.put_record.Tie as tie
 
 returns : tie.Need-returns
-unfolding putRecord
-returns c = let x = c.before.before.before.args in reached 0 (putRows x.out.now x.cubes.now x.k x.q) c.if1.true
+unfolding put_record
+returns c = let x = c.before.before.before.args in reached 0 (put_rows x.out.now x.cubes.now x.k x.q) c.if1.true
 
 returns-2 : tie.Need-returns-2
-unfolding putRecord
+unfolding put_record
 returns-2 c =
     let x = c.before.before.before.before.args in
-    reached 1 (putRows x.out.now x.cubes.now x.k x.q) (c.before.if1.false, c.if2.true)
+    reached 1 (put_rows x.out.now x.cubes.now x.k x.q) (c.before.if1.false, c.if2.true)
 
 add-n : tie.Need-overflow-add-n
 add-n c = search rules
@@ -33,7 +33,7 @@ front-len-requires : tie.Need-front-len-requires
 front-len-requires c κs = search rules
 
 add-if4 : tie.Need-overflow-add-if4
-unfolding frontLen
+unfolding front_len
 add-if4 c = search rules
 
 returns-4 : tie.Need-returns-4

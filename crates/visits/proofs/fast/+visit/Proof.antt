@@ -1,6 +1,6 @@
 -- `visits::fast::+visit` meets its contract, as its own cycle of calls. A turn of the loop is that of the plain visit; what is new is that the cuts met
 -- are digits of a word, and that a child's walk may be remembered.
-use Rattle.visits.specs.Settle.{Said, settle, leftFrom}
+use Rattle.visits.specs.Settle.{Said, settle, left_from}
 use Rattle.visits.specs.declared.allowance.Allowance.{Allowance}
 use borrow.Author.Rules.{rules}
 use Prim.Native.Nat.{ℕ, suc, ◌+◌, ◌-◌, ◌/◌, ◌^◌, ◌≤◌, ◌<◌}
@@ -15,8 +15,8 @@ use lib.Pow.{pow_mono}
 use Rattle.model.specs.Walk.{visit as walked}
 use Rattle.model.proofs.Walking.{walk-positive}
 use Rattle.format.specs.Bytes.{code_of}
-use Rattle.visits.specs.Opening.{firstOpen}
-use Rattle.visits.specs.Words.{cubeOfWords, rowCube, cutsBelow}
+use Rattle.visits.specs.Opening.{first_open}
+use Rattle.visits.specs.Words.{cube_of_words, row_cube, cuts_below}
 use Rattle.visits.specs.Alive.{Alive, Against}
 use Rattle.visits.specs.Memory.{Finds, Memory}
 use Rattle.visits.specs.Replies.{tells}
@@ -61,11 +61,11 @@ Inv n live cuts against slots₀ have₀ near₀ met₀ cut i₀ slots have near
     × (length against ≡ 640)
     × (have.left + have.spent < 2 ^ 32)
     × (length near ≡ 10)
-    × (i ≡ firstOpen (cubeOfWords near) (cubeOfWords cut))
-    × (cubeOfWords cut ≡ rowCube cuts n)
-    × (leftFrom (walked (cutsBelow cuts n)) (cubeOfWords cut) have₀ (cubeOfWords near₀)
-    ≡ leftFrom (walked (cutsBelow cuts n)) (cubeOfWords cut) have (cubeOfWords near))
-    × Alive cuts n (cubeOfWords near) met
+    × (i ≡ first_open (cube_of_words near) (cube_of_words cut))
+    × (cube_of_words cut ≡ row_cube cuts n)
+    × (left_from (walked (cuts_below cuts n)) (cube_of_words cut) have₀ (cube_of_words near₀)
+    ≡ left_from (walked (cuts_below cuts n)) (cube_of_words cut) have (cube_of_words near))
+    × Alive cuts n (cube_of_words near) met
     × Against cuts n against
     × Memory cuts slots
     × (length slots ≡ length slots₀)
@@ -90,7 +90,7 @@ at-child : (t : ℕ) (c : visit-lts.After-narrow (given t) (visit-at t) visit.Po
     let gv = c.before in
     let at = gv.before.before.before.before in
     let g = at.before.before.before.before.before.before.before.before.before.args in
-    Alive g.cuts.now g.n (cubeOfWords (set at.loop.near (at.loop.i / 32) gv.given.result)) c.narrow.result
+    Alive g.cuts.now g.n (cube_of_words (set at.loop.near (at.loop.i / 32) gv.given.result)) c.narrow.result
 at-child t c =
     let gv = c.before in
     let o = at_open t gv.before in
@@ -102,9 +102,9 @@ at-child t c =
 -- the whole visit is what is left of it in the loop
 whole : (t : ℕ) (c : visit-lts.At-loop (given t) (visit-at t) visit.Post Inv μ) →
     let g = c.before.before.before.before.before.before.before.before.before.args in
-    settle g.a (walked (cutsBelow g.cuts.now (suc g.n)) (cubeOfWords g.piece))
-    ≡ leftFrom (walked (cutsBelow g.cuts.now g.n)) (cubeOfWords (get_or g.cuts.now g.n [])) c.loop.have (cubeOfWords c.loop.near)
-unfolding rowCube
+    settle g.a (walked (cuts_below g.cuts.now (suc g.n)) (cube_of_words g.piece))
+    ≡ left_from (walked (cuts_below g.cuts.now g.n)) (cube_of_words (get_or g.cuts.now g.n [])) c.loop.have (cube_of_words c.loop.near)
+unfolding row_cube
 whole t c =
     let sp = c.before.before.before.before.before in
     begun _ _ _ _ _ (pos_of_ne-zero sp.before.if1.false) sp.spend.ensures sp.before.before.before.before.requires.1.3 ∙ c.loop.invariant.6
@@ -114,7 +114,7 @@ at-reply : (t : ℕ) (c : visit-lts.Joined3 (given t) (visit-at t) visit.Post In
     let gv = c.before.before.before.before.before.before.before in
     let at = gv.before.before.before.before in
     let g = at.before.before.before.before.before.before.before.before.before.args in
-    (tells c.if3.v ≡ settle at.loop.have (walked (cutsBelow g.cuts.now g.n) (cubeOfWords (set at.loop.near (at.loop.i / 32) gv.given.result))))
+    (tells c.if3.v ≡ settle at.loop.have (walked (cuts_below g.cuts.now g.n) (cube_of_words (set at.loop.near (at.loop.i / 32) gv.given.result))))
     × Memory g.cuts.now c.if3.slots
     × (length c.if3.slots ≡ length g.slots.now)
 at-reply t c =
@@ -137,19 +137,19 @@ at-covered : (t : ℕ) (c : visit-lts.At-match-keys1 (given t) (visit-at t) visi
     let g = at.before.before.before.before.before.before.before.before.before.args in
     (at.loop.have.spent ≤ j.if3.v.allowance.spent)
     × Finds (j.if3.v.allowance.spent - at.loop.have.spent)
-    (walked (cutsBelow g.cuts.now g.n) (cubeOfWords (set at.loop.near (at.loop.i / 32) gv.given.result)))
+    (walked (cuts_below g.cuts.now g.n) (cube_of_words (set at.loop.near (at.loop.i / 32) gv.given.result)))
 at-covered t c = covered-finds _ _ _ (sym (at-reply t c.before).0 ∙ tells-covered c.before.if3.v (is-covered _ c.match.keys1))
 
 -- the piece that agrees with the cut there
 at-agreed : (t : ℕ) (c : visit-lts.After-given2 (given t) (visit-at t) visit.Post Inv μ) →
     let gv = c.before.before.before.before.before.before.before.before.before.before.before.before.before.before.before.before.before in
     let at = gv.before.before.before.before in
-    cubeOfWords (set (set at.loop.near (at.loop.i / 32) gv.given.result) (at.loop.i / 32) c.given2.result) ≡ set
-    (cubeOfWords at.loop.near) at.loop.i (code_of gv.before.number_in.result)
+    cube_of_words (set (set at.loop.near (at.loop.i / 32) gv.given.result) (at.loop.i / 32) c.given2.result) ≡ set
+    (cube_of_words at.loop.near) at.loop.i (code_of gv.before.number_in.result)
 at-agreed t c =
     let gv = c.before.before.before.before.before.before.before.before.before.before.before.before.before.before.before.before.before in
     let at = gv.before.before.before.before in
-    ap cubeOfWords (set-set at.loop.near (at.loop.i / 32) gv.given.result c.given2.result)
+    ap cube_of_words (set-set at.loop.near (at.loop.i / 32) gv.given.result c.given2.result)
     ∙ took-cube at.loop.near at.loop.i _ c.given2.result at.loop.invariant.3 gv.before.before.before.loop-test.true c.given2.ensures
 
 -- the next position that opens is a later one
@@ -158,8 +158,8 @@ at-later : (t : ℕ) (c : visit-lts.After-cut4 (given t) (visit-at t) visit.Post
     let gv = g2.before.before.before.before.before.before.before.before.before.before.before.before.before.before.before.before.before in
     let at = gv.before.before.before.before in
     let g = at.before.before.before.before.before.before.before.before.before.args in
-    at.loop.i < firstOpen (cubeOfWords (set (set at.loop.near (at.loop.i / 32) gv.given.result) (at.loop.i / 32) g2.given2.result))
-    (cubeOfWords (get_or g.cuts.now g.n []))
+    at.loop.i < first_open (cube_of_words (set (set at.loop.near (at.loop.i / 32) gv.given.result) (at.loop.i / 32) g2.given2.result))
+    (cube_of_words (get_or g.cuts.now g.n []))
 at-later t c =
     let g2 = c.before.before.before in
     let gv = g2.before.before.before.before.before.before.before.before.before.before.before.before.before.before.before.before.before in
@@ -182,7 +182,7 @@ visit-next-open-requires : (t : ℕ) → visit-lts.Need-next-open-requires (give
 visit-next-open-requires t c κs = search rules
 
 visit-loop-holds : (t : ℕ) → visit-lts.Need-loop-init (given t) (visit-at t) visit.Post Inv μ
-unfolding rowCube
+unfolding row_cube
 visit-loop-holds t c =
     let sp = c.before.before.before.before in
     let st = sp.before.before.before.before in
@@ -265,7 +265,7 @@ visit-visit-requires t c κs =
     let k = tp.top.ensures in
     let l = alive-top _ _ _ a.0 k.2 in
     let cuts = st.args.cuts.now in
-    let child = cubeOfWords (set at.loop.near (at.loop.i / 32) nr.before.given.result) in (
+    let child = cube_of_words (set at.loop.near (at.loop.i / 32) nr.before.given.result) in (
       omega (arith, l, st.requires.0),
       (
         omega (arith, l, at.loop.invariant.0),
@@ -360,7 +360,7 @@ visit-loop-again t c =
       v.5,
       v.6
           ∙ turn-covered _ _ _ _ (words-length _ ∙ sym (words-length _)) _ v.4 (omega (arith, words-length at.loop.near)) _ _ o.fixed o.turned _
-          (took-cube at.loop.near at.loop.i _ gv.given.result v.3 h gv.given.ensures) _ r.0 (is-covered _ k1.match.keys1) ∙ ap (leftFrom _ _ _) (sym (at-agreed t g2)),
+          (took-cube at.loop.near at.loop.i _ gv.given.result v.3 h gv.given.ensures) _ r.0 (is-covered _ k1.match.keys1) ∙ ap (left_from _ _ _) (sym (at-agreed t g2)),
       rw (set-set at.loop.near (at.loop.i / 32) gv.given.result g2.given2.result)
           (took-alive at.loop.near at.loop.i _ g2.given2.result v.3 h g2.given2.ensures _ _ g.against.now _ _ o.unfixed o.least o.most v.7 v.8 n2.narrow2.ensures),
       v.8,

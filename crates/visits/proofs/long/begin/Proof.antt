@@ -1,6 +1,6 @@
 -- `visits::long::begin` meets its contract.
 use Rattle.visits.proofs.Meeting.{alive-fewer, alive-meets, alive-top, alive-passed, alive-none, against-fewer}
-use Rattle.visits.specs.Words.{cubeOfWords}
+use Rattle.visits.specs.Words.{cube_of_words}
 use Rattle.visits.specs.Settle.{settle}
 use mathlib.Core.Path.{sym, ap, ◌∙◌}
 use native.Mathlib.Omega.{arith}
@@ -39,7 +39,7 @@ visit-requires-2 c κs =
     let k = tp.top.ensures in
     let l = alive-top _ _ _ p.4.0 k.2 in
     let cuts = st.args.cuts.now in
-    let w = cubeOfWords st.args.p in (
+    let w = cube_of_words st.args.p in (
       omega (arith, l, p.0),
       p.1,
       p.2,

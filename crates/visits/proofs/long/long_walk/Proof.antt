@@ -4,12 +4,12 @@ use Rattle.visits.proofs.Slots.{memory-fresh}
 use Rattle.visits.proofs.Step.{front_length, front-cube, cube-length}
 use Rattle.visits.specs.Alive.{First}
 use Rattle.visits.specs.Loading.{Met}
-use Rattle.visits.specs.Words.{cubeOfWords}
+use Rattle.visits.specs.Words.{cube_of_words}
 use Rattle.visits.specs.Settle.{settle}
 use Rattle.model.proofs.Walking.{survivor-length}
 use Rattle.model.specs.Padding.{pad}
 use Rattle.model.specs.Cube.{shares}
-use Rattle.cube.specs.Whole.{cubeOf, whole_at}
+use Rattle.cube.specs.Whole.{cube_of, whole_at}
 use lib.ListN.{length}
 use mathlib.Core.Path.{◌≡◌, refl, sym, ap, ◌∙◌}
 use Prim.Native.Nat.{◌+◌, ◌-◌, ◌*◌, ◌≤◌}
@@ -34,7 +34,7 @@ fit c =
 -- the base in words
 base : (c : tie.After-load) →
     let st = c.before.before.before.before.before.before.before.before.before.before.before.before.before.before.before.before.before in
-    cubeOfWords c.load.result ≡ pad (320 - 4 * st.args.q) (cubeOf st.args.q st.args.t2)
+    cube_of_words c.load.result ≡ pad (320 - 4 * st.args.q) (cube_of st.args.q st.args.t2)
 unfolding whole_at
 base c = c.load.ensures
 
@@ -42,7 +42,7 @@ base c = c.load.ensures
 alive : (c : tie.After-alive-of) →
     let dg = c.before.before.before.before.before.before.before in
     let g = dg.before.before.before.before.before.args in
-    Met g.q g.s.now (g.at + (g.left - dg.digits.result) * g.q) dg.digits.result (cubeOf g.q g.t2) dg.digits.result c.alive-of.result
+    Met g.q g.s.now (g.at + (g.left - dg.digits.result) * g.q) dg.digits.result (cube_of g.q g.t2) dg.digits.result c.alive-of.result
 alive c =
     let dg = c.before.before.before.before.before.before.before in
     let st = dg.before.before.before.before.before in
@@ -50,7 +50,7 @@ alive c =
 
 first : (c : tie.After-first-meets) →
     let g = c.before.before.before.before.before.before.before.before.before.before.before.before.before.before.before.args in
-    First g.left (shares (cubeOf g.q g.t2) (whole_at g.q g.s.now g.at)) c.first-meets.result
+    First g.left (shares (cube_of g.q g.t2) (whole_at g.q g.s.now g.at)) c.first-meets.result
 first c =
     let st = c.before.before.before.before.before.before.before.before.before.before.before.before.before.before.before in
     rw (front_length st.args.q st.args.t2 (long st), front-cube st.args.q st.args.t2) at c.first-meets.ensures
@@ -143,8 +143,8 @@ begin-requires c κs =
       omega (arith, dg.digits.ensures, dg.before.cuts2.given),
       ag.against2.given,
       p.3,
-      first-met g.q g.s.now g.at g.left _ lc.load-cuts.ensures p.1 (cubeOf g.q g.t2) _ lp (base ld) n _ dg.digits.ensures p.2 (first fm),
-      loaded-alive g.q g.s.now g.at g.left _ lc.load-cuts.ensures p.1 (cubeOf g.q g.t2) _ lp (base ld) n _ (omega (arith, dg.digits.ensures)) (alive al),
+      first-met g.q g.s.now g.at g.left _ lc.load-cuts.ensures p.1 (cube_of g.q g.t2) _ lp (base ld) n _ dg.digits.ensures p.2 (first fm),
+      loaded-alive g.q g.s.now g.at g.left _ lc.load-cuts.ensures p.1 (cube_of g.q g.t2) _ lp (base ld) n _ (omega (arith, dg.digits.ensures)) (alive al),
       ag.before.enter-all.ensures,
       memory-fresh _ 251,
     )
@@ -168,8 +168,8 @@ returns c =
     (λ w e. survivor-length _ _ w e ∙ lp)
     (bg.begin.ensures
     ∙ ap (settle g.a)
-    (first-passed g.q g.s.now g.at g.left _ lc.load-cuts.ensures p.1 (cubeOf g.q g.t2) _ lp (base ld) _ _ dg.digits.ensures p.2 (first fm)
-    ∙ sym (whole g.q g.s.now g.at g.left _ lc.load-cuts.ensures p.1 (cubeOf g.q g.t2) _ lp (base ld))))
+    (first-passed g.q g.s.now g.at g.left _ lc.load-cuts.ensures p.1 (cube_of g.q g.t2) _ lp (base ld) _ _ dg.digits.ensures p.2 (first fm)
+    ∙ sym (whole g.q g.s.now g.at g.left _ lc.load-cuts.ensures p.1 (cube_of g.q g.t2) _ lp (base ld))))
     c.in_bytes.ensures
 
 pub long-walk-spec : {M : Type 1} → statement M

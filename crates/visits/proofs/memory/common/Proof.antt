@@ -4,7 +4,7 @@ use Rattle.visits.proofs.Meeting.{alive-top}
 use Rattle.visits.proofs.Slots.{common-turn, common-end}
 use Rattle.visits.specs.Memory.{Lies}
 use Rattle.visits.specs.Alive.{digit}
-use Rattle.visits.specs.Words.{rowCube}
+use Rattle.visits.specs.Words.{row_cube}
 use lib.ListN.{length}
 use mathlib.Core.Logic.{◌⊎◌, inl}
 use mathlib.Core.Path.{◌≡◌}
@@ -16,7 +16,7 @@ use Rattle.visits.proofs.memory.common.Tie as tie
 
 abbrev invariant-loop : tie.invariant-loop
 invariant-loop cuts alive m₀ x₀ m x =
-    (x < 2 ^ 64) × (x < 2 ^ length cuts) × ((j : ℕ) → j < 64 → digit j alive ≡ 1 → (digit j x ≡ 1) ⊎ Lies m (rowCube cuts j))
+    (x < 2 ^ 64) × (x < 2 ^ length cuts) × ((j : ℕ) → j < 64 → digit j alive ≡ 1 → (digit j x ≡ 1) ⊎ Lies m (row_cube cuts j))
 
 abbrev decreases-loop : tie.decreases-loop
 decreases-loop cuts alive m₀ x₀ m x = x

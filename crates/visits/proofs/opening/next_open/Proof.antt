@@ -5,7 +5,7 @@ use mathlib.Core.Path.{◌≡◌, sym, ◌∙◌}
 use lib.ListN.{length}
 use Rattle.format.specs.Bytes.{codes}
 use Rattle.format.proofs.Coding.{length-codes}
-use Rattle.visits.specs.Opening.{firstOpen}
+use Rattle.visits.specs.Opening.{first_open}
 use Rattle.visits.proofs.Openings.{first-most}
 use Rattle.visits.proofs.Marks.{byte-opens, byte-passed, bytes-ended}
 use borrow.Author.Rules.{rules}
@@ -13,7 +13,7 @@ use Rattle.visits.proofs.opening.next_open.Statement.{statement}
 use Rattle.visits.proofs.opening.next_open.Tie as tie
 
 abbrev invariant-loop : tie.invariant-loop
-invariant-loop near cut from b₀ b = (length near ≡ length cut) × (length near ≤ 80) × (4 * b ≤ firstOpen (codes near) (codes cut)) × (b ≤ 80)
+invariant-loop near cut from b₀ b = (length near ≡ length cut) × (length near ≤ 80) × (4 * b ≤ first_open (codes near) (codes cut)) × (b ≤ 80)
 
 abbrev decreases-loop : tie.decreases-loop
 decreases-loop near cut from b₀ b = length near - b

@@ -4,8 +4,8 @@ use Rattle.visits.proofs.Entering.{fresh, free-words, enter-fits, enter-turn, en
 use Rattle.visits.proofs.Narrowing.{Opened, opened, took-cube, later_first}
 use Rattle.visits.proofs.WordCubes.{words-length}
 use Rattle.visits.specs.Loading.{Entered}
-use Rattle.visits.specs.Words.{cubeOfWords}
-use Rattle.visits.specs.Opening.{firstOpen}
+use Rattle.visits.specs.Words.{cube_of_words}
+use Rattle.visits.specs.Opening.{first_open}
 use Rattle.model.specs.Cube.{none, free}
 use lib.ListN.{length, get_or, set, length-set}
 use Rattle.format.specs.Bytes.{code_of}
@@ -19,9 +19,9 @@ use Rattle.visits.proofs.table.enter.Tie as tie
 
 abbrev invariant-loop : tie.invariant-loop
 invariant-loop against₀ cut one near₀ i₀ against near i =
-    (length against ≡ 640) × (length near ≡ 10) × (i ≡ firstOpen (cubeOfWords near) (cubeOfWords cut)) × Entered against₀
-    (cubeOfWords near) one against
-    × ((j : ℕ) → j < 320 → (get_or (cubeOfWords near) j none ≡ free) ⊎ (get_or (cubeOfWords near) j none ≡ get_or (cubeOfWords cut) j none))
+    (length against ≡ 640) × (length near ≡ 10) × (i ≡ first_open (cube_of_words near) (cube_of_words cut)) × Entered against₀
+    (cube_of_words near) one against
+    × ((j : ℕ) → j < 320 → (get_or (cube_of_words near) j none ≡ free) ⊎ (get_or (cube_of_words near) j none ≡ get_or (cube_of_words cut) j none))
     × (length against₀ ≡ 640) × ((k : ℕ) → k < 640 → get_or against₀ k 0 + one < 2 ^ 64)
 
 abbrev decreases-loop : tie.decreases-loop
@@ -35,8 +35,8 @@ at_open c = let at = c.before.before in opened _ _ _ _ at.loop.invariant.2 c.bef
 agreed : (c : tie.After-given invariant-loop decreases-loop) →
     let num = c.before.before in
     let at = num.before.before in
-    cubeOfWords (set at.loop.near (at.loop.i / 32) c.given.result)
-    ≡ set (cubeOfWords at.loop.near) at.loop.i (code_of num.number_in.result)
+    cube_of_words (set at.loop.near (at.loop.i / 32) c.given.result)
+    ≡ set (cube_of_words at.loop.near) at.loop.i (code_of num.number_in.result)
 agreed c =
     let num = c.before.before in
     let at = num.before.before in
@@ -46,7 +46,7 @@ later : (c : tie.After-given invariant-loop decreases-loop) →
     let num = c.before.before in
     let at = num.before.before in
     at.loop.i
-    < firstOpen (cubeOfWords (set at.loop.near (at.loop.i / 32) c.given.result)) (cubeOfWords at.before.before.before.before.args.cut.now)
+    < first_open (cube_of_words (set at.loop.near (at.loop.i / 32) c.given.result)) (cube_of_words at.before.before.before.before.args.cut.now)
 later c =
     let num = c.before.before in
     let at = num.before.before in
@@ -85,7 +85,7 @@ add-against c =
     let o = at_open c.before in
     let h = c.before.before.loop-test.true in
     let k = 2 * at.loop.i + (2 - c.before.number_in.result) in
-    omega (arith, enter-fits g.against.now (cubeOfWords at.loop.near) g.one at.loop.against at.loop.invariant.3 at.loop.i c.before.number_in.result h o.least o.most o.unfixed, at.loop.invariant.6 k (omega (arith, h, o.least, o.most)))
+    omega (arith, enter-fits g.against.now (cube_of_words at.loop.near) g.one at.loop.against at.loop.invariant.3 at.loop.i c.before.number_in.result h o.least o.most o.unfixed, at.loop.invariant.6 k (omega (arith, h, o.least, o.most)))
 
 mul-against-2 : tie.Need-overflow-mul-against-2 invariant-loop decreases-loop
 mul-against-2 c = search rules
@@ -126,8 +126,8 @@ loop-again c =
       length-set at.loop.against _ _ ∙ v.0,
       length-set at.loop.near (at.loop.i / 32) gv.given.result ∙ v.1,
       c.next-open2.ensures,
-      enter-turn g.against.now (cubeOfWords at.loop.near) g.one at.loop.against v.3 at.loop.i num.number_in.result h o.least o.most o.unfixed (words-length at.loop.near) _ v.0 (agreed gv),
-      agree-turn (cubeOfWords at.loop.near) (cubeOfWords g.cut.now) at.loop.i _ _
+      enter-turn g.against.now (cube_of_words at.loop.near) g.one at.loop.against v.3 at.loop.i num.number_in.result h o.least o.most o.unfixed (words-length at.loop.near) _ v.0 (agreed gv),
+      agree-turn (cube_of_words at.loop.near) (cube_of_words g.cut.now) at.loop.i _ _
           (omega (arith, words-length at.loop.near)) (agreed gv) o.fixed v.4,
       v.5,
       v.6,

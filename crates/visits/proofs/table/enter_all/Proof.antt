@@ -2,7 +2,7 @@
 use Rattle.visits.proofs.Entering.{EnteredAll, entered-none, entered-more}
 use Rattle.visits.proofs.Meeting.{pow-double}
 use Rattle.visits.specs.Alive.{Against}
-use Rattle.visits.specs.Words.{rowCube}
+use Rattle.visits.specs.Words.{row_cube}
 use lib.Pow.{pow_mono}
 use lib.ListN.{length}
 use mathlib.Core.Path.{◌≡◌, subst}
@@ -45,7 +45,7 @@ loop-less : tie.Need-loop-smaller invariant-loop decreases-loop
 loop-less c = search rules
 
 loop-again : tie.Need-loop-preserved invariant-loop decreases-loop
-unfolding rowCube
+unfolding row_cube
 loop-again c =
     let en = c.before.before in
     let lp = en.before.before.before.before.before in

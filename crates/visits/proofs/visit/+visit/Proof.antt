@@ -9,10 +9,10 @@ use mathlib.Core.Path.{◌≡◌, refl, sym, ◌∙◌}
 use lib.ListN.{length}
 use Rattle.model.specs.Walk.{visit as visits}
 use Rattle.model.proofs.Walking.{walk-positive}
-use Rattle.cube.specs.Whole.{cubeOf, whole_at, wholesAt}
+use Rattle.cube.specs.Whole.{cube_of, whole_at, wholes_at}
 use Rattle.visits.specs.Cuts.{Skipped}
-use Rattle.visits.specs.Opening.{firstOpen}
-use Rattle.visits.specs.Settle.{settle, leftFrom}
+use Rattle.visits.specs.Opening.{first_open}
+use Rattle.visits.specs.Settle.{settle, left_from}
 use Rattle.visits.proofs.Cuts.{room}
 use Rattle.visits.proofs.Step.{front_length, front-cube, cube-length, cut-length, Opens, opens_at}
 use Rattle.visits.proofs.Settle.{settle-none, settle-keeps}
@@ -48,8 +48,8 @@ Inv q s at left have₀ cut rest fewer near₀ i₀ have near i =
     × (rest + fewer * q ≤ length s)
     × (length near ≡ 80)
     × (have.left + have.spent < 2 ^ 32)
-    × (i ≡ firstOpen (cubeOf q near) (whole_at q s cut))
-    × (leftFrom (visits (wholesAt q s rest fewer)) (whole_at q s cut) have₀ (cubeOf q near₀) ≡ leftFrom (visits (wholesAt q s rest fewer)) (whole_at q s cut) have (cubeOf q near))
+    × (i ≡ first_open (cube_of q near) (whole_at q s cut))
+    × (left_from (visits (wholes_at q s rest fewer)) (whole_at q s cut) have₀ (cube_of q near₀) ≡ left_from (visits (wholes_at q s rest fewer)) (whole_at q s cut) have (cube_of q near))
 
 abbrev μ : visit-lts.decreases-loop
 μ q s at left have₀ cut rest fewer near₀ i₀ have near i = 4 * q - i
@@ -63,7 +63,7 @@ After-skip t = visit-lts.After-skip (given t) (visit-at t) visit.Post Inv μ
 -- the cuts that share no header are passed over
 skipped : (t : ℕ) (c : After-skip t) →
     let st = c.before.before.before.before.before.before.before in
-    Skipped st.args.q st.args.s.now (cubeOf st.args.q st.args.t2) st.args.at st.args.left c.skip.result.at c.skip.result.left
+    Skipped st.args.q st.args.s.now (cube_of st.args.q st.args.t2) st.args.at st.args.left c.skip.result.at c.skip.result.left
 skipped t c =
     let st = c.before.before.before.before.before.before.before in
     let h : st.args.q ≤ length st.args.t2 = search rules in
@@ -82,8 +82,8 @@ begun : (t : ℕ) (c : visit-lts.At-loop (given t) (visit-at t) visit.Post Inv �
     let k = c.before.before.before.before.before.before.before in
     let st = k.before.before.before.before.before.before.before in
     let q = st.args.q in
-    settle st.args.a (visits (wholesAt q st.args.s.now st.args.at st.args.left) (cubeOf q st.args.t2))
-    ≡ leftFrom (visits (wholesAt q st.args.s.now (k.skip.result.at + q) (k.skip.result.left - 1))) (whole_at q st.args.s.now k.skip.result.at) c.loop.have (cubeOf q c.loop.near)
+    settle st.args.a (visits (wholes_at q st.args.s.now st.args.at st.args.left) (cube_of q st.args.t2))
+    ≡ left_from (visits (wholes_at q st.args.s.now (k.skip.result.at + q) (k.skip.result.left - 1))) (whole_at q st.args.s.now k.skip.result.at) c.loop.have (cube_of q c.loop.near)
 begun t c =
     let k = c.before.before.before.before.before.before.before in
     let sp = k.before.before.before in
@@ -106,7 +106,7 @@ turned : (t : ℕ) (c : visit-lts.After-opened2 (given t) (visit-at t) visit.Pos
     let at = g.before.before.before.before.before.before.before.before.before in
     let k = at.before.before.before.before.before.before.before in
     let st = k.before.before.before.before.before.before.before in
-    c.opened2.result ≡ firstOpen (cubeOf st.args.q g.give2.result) (whole_at st.args.q st.args.s.now k.skip.result.at)
+    c.opened2.result ≡ first_open (cube_of st.args.q g.give2.result) (whole_at st.args.q st.args.s.now k.skip.result.at)
 turned t c =
     let g = c.before.before.before in
     let at = g.before.before.before.before.before.before.before.before.before in

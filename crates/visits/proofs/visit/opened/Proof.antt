@@ -3,7 +3,7 @@ use mathlib.Core.Path.{ap, ◌∙◌}
 use lib.ListN.{length}
 use Rattle.format.specs.Bytes.{codes}
 use Rattle.cube.proofs.Wholes.{whole_part, part_length}
-use Rattle.visits.specs.Opening.{firstOpen}
+use Rattle.visits.specs.Opening.{first_open}
 use borrow.Author.Rules.{rules}
 use Rattle.visits.proofs.visit.opened.Statement.{statement}
 use Rattle.visits.proofs.visit.opened.Tie as tie
@@ -31,7 +31,7 @@ next-open-requires c κs =
 returns : tie.Need-returns
 returns c =
     let st = c.before.before.before.before in
-    c.next-open.ensures ∙ ap (firstOpen (codes st.args.near.now)) (whole_part (length st.args.near.now) st.args.s.now st.args.cut)
+    c.next-open.ensures ∙ ap (first_open (codes st.args.near.now)) (whole_part (length st.args.near.now) st.args.s.now st.args.cut)
 
 pub opened-spec : {M : Type 1} → statement M
 opened-spec =

@@ -5,7 +5,7 @@ use mathlib.Core.Path.{◌≡◌, sym, ◌∙◌}
 use lib.ListN.{length}
 use Rattle.model.specs.Walk.{visit}
 use Rattle.format.specs.Bytes.{codes}
-use Rattle.cube.specs.Whole.{wholesAt}
+use Rattle.cube.specs.Whole.{wholes_at}
 use Rattle.visits.proofs.Cuts.{room, cuts-passed}
 use borrow.Author.Rules.{rules}
 use Rattle.visits.proofs.visit.skip.Statement.{statement}
@@ -13,7 +13,7 @@ use Rattle.visits.proofs.visit.skip.Tie as tie
 
 abbrev invariant-loop : tie.invariant-loop
 invariant-loop piece s at left here₀ n₀ here n =
-    (here + n * length piece ≤ length s) × (n ≤ left) × (visit (wholesAt (length piece) s at left) (codes piece) ≡ visit (wholesAt (length piece) s here n) (codes piece))
+    (here + n * length piece ≤ length s) × (n ≤ left) × (visit (wholes_at (length piece) s at left) (codes piece) ≡ visit (wholes_at (length piece) s here n) (codes piece))
 
 abbrev decreases-loop : tie.decreases-loop
 decreases-loop piece s at left here₀ n₀ here n = n

@@ -1,7 +1,7 @@
 -- `visits::words::next_open` meets its contract. The loop's invariant: no word before w has a place that opens.
 use Rattle.visits.proofs.WordCubes.{open-here, open-passed, open-ended}
-use Rattle.visits.specs.Words.{cubeOfWords}
-use Rattle.visits.specs.Opening.{firstOpen}
+use Rattle.visits.specs.Words.{cube_of_words}
+use Rattle.visits.specs.Opening.{first_open}
 use native.Mathlib.Omega.{arith}
 use Prim.Native.Nat.{◌*◌, ◌-◌, ◌≤◌}
 use borrow.Author.Rules.{rules}
@@ -9,7 +9,7 @@ use Rattle.visits.proofs.words.next_open.Statement.{statement}
 use Rattle.visits.proofs.words.next_open.Tie as tie
 
 abbrev invariant-loop : tie.invariant-loop
-invariant-loop near cut from w₀ w = (w ≤ 10) × (32 * w ≤ firstOpen (cubeOfWords near) (cubeOfWords cut))
+invariant-loop near cut from w₀ w = (w ≤ 10) × (32 * w ≤ first_open (cube_of_words near) (cube_of_words cut))
 
 abbrev decreases-loop : tie.decreases-loop
 decreases-loop near cut from w₀ w = 10 - w

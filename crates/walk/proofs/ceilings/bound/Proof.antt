@@ -8,9 +8,9 @@ use borrow.Author.Rules.{rules}
 use Rattle.model.specs.Cube.{Cube}
 use Rattle.model.specs.Difference.{less}
 use Rattle.model.specs.Ceiling.{ceiling, capped}
-use Rattle.format.specs.Limits.{widestCube, mostCuts}
+use Rattle.format.specs.Limits.{widest_cube, most_cuts}
 use Rattle.format.specs.Bytes.{codes}
-use Rattle.cube.specs.Whole.{wholesAt}
+use Rattle.cube.specs.Whole.{wholes_at}
 use Rattle.walk.specs.Tally.{Tallied}
 use Rattle.walk.proofs.Tallies.{tally-begun, back, tally-more, part-back-length, part-back, under, all_left, none_left}
 use Rattle.walk.proofs.ceilings.bound.Statement.{statement}
@@ -18,9 +18,9 @@ use Rattle.walk.proofs.ceilings.bound.Tie as tie
 
 abbrev invariant-loop : tie.invariant-loop
 invariant-loop base s at left t₀ k₀ end₀ t k end =
-    (k ≤ left) × (length base ≤ widestCube) × (at + k * length base ≡ end) × (end ≤ length s) × (t.met + k ≤ mostCuts)
-    × (length t.kept ≡ widestCube)
-    × Tallied base (wholesAt (length base) s end (left - k)) t
+    (k ≤ left) × (length base ≤ widest_cube) × (at + k * length base ≡ end) × (end ≤ length s) × (t.met + k ≤ most_cuts)
+    × (length t.kept ≡ widest_cube)
+    × Tallied base (wholes_at (length base) s end (left - k)) t
 
 abbrev decreases-loop : tie.decreases-loop
 decreases-loop base s at left t₀ k₀ end₀ t k end = k
@@ -41,7 +41,7 @@ loop-holds c =
       search rules,
       search rules,
       search rules,
-      rw (all_left (length b) x.s.now x.at x.left) (tally-begun widestCube b (omega (arith, c.before.before.requires))),
+      rw (all_left (length b) x.s.now x.at x.left) (tally-begun widest_cube b (omega (arith, c.before.before.requires))),
     )
 
 sub-here : tie.Need-overflow-sub-here invariant-loop decreases-loop
@@ -89,7 +89,7 @@ loop-again c =
       omega (arith, l.invariant.3),
       omega (arith, t.1.1, l.invariant.4),
       t.1.0,
-      rw (← m, ← e) (t.0 (wholesAt q x.s.now l.end (x.left - l.k)) l.invariant.6),
+      rw (← m, ← e) (t.0 (wholes_at q x.s.now l.end (x.left - l.k)) l.invariant.6),
     )
 
 smaller-requires : tie.Need-smaller-requires invariant-loop decreases-loop

@@ -9,10 +9,10 @@ use Rattle.model.specs.Ceiling.{ceiling, capped}
 use Rattle.answer.specs.Answer.{counted}
 use Rattle.format.proofs.Lending.{one-refused, one_lent}
 use Rattle.format.proofs.Recording.{record_of}
-use Rattle.format.specs.Calls.{ceiling-of}
+use Rattle.format.specs.Calls.{ceiling_of}
 use Rattle.format.specs.Told.{Told, silent}
-use Rattle.format.specs.Records.{differenceAt}
-use Rattle.format.specs.Bytes.{cubeLen}
+use Rattle.format.specs.Records.{difference_at}
+use Rattle.format.specs.Bytes.{cube_len}
 use Rattle.format.specs.Rows.{last}
 use Rattle.cube.proofs.Wholes.{whole_part, part_length}
 use Rattle.region.proofs.Fronts.{front-stands}
@@ -23,7 +23,7 @@ use Rattle.walk.proofs.ceilings.ceiling.Tie as tie
 
 -- where the call goes on, the record stands
 stands : (c : tie.After-front-at)
-    → Stands (cubeLen c.before.before.before.before.before.args.w) c.before.before.before.before.before.args.s.now c.Front-at.result
+    → Stands (cube_len c.before.before.before.before.before.args.w) c.before.before.before.before.before.args.s.now c.Front-at.result
 stands c =
     let x = c.before.before.before.before.before.args in
     front-stands
@@ -34,10 +34,10 @@ one-refusal-requires : tie.Need-one-refusal-requires
 one-refusal-requires c κs = search rules
 
 returns : tie.Need-returns
-unfolding ceiling-of
+unfolding ceiling_of
 returns c =
     let x = c.before.before.before.before.args in
-    let k = last (silent (counted 0 (capped (ceiling (differenceAt x.w x.s.now 0))))) in
+    let k = last (silent (counted 0 (capped (ceiling (difference_at x.w x.s.now 0))))) in
     ap (λ (t : Told). t.answer) (one-refused x.w x.s.now _ c.before.before.one-refusal.ensures silent k c.if1.true)
 
 front-at-requires : tie.Need-front-at-requires

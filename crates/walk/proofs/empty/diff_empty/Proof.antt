@@ -7,9 +7,9 @@ use borrow.Author.Rules.{rules}
 use Rattle.model.specs.Walk.{walk}
 use Rattle.format.proofs.Lending.{one-refused, one_lent, silent-out, told-out}
 use Rattle.format.proofs.Recording.{record_of}
-use Rattle.format.specs.Calls.{diff-empty}
+use Rattle.format.specs.Calls.{diff_empty}
 use Rattle.format.specs.Told.{silent, walking}
-use Rattle.format.specs.Records.{differenceAt}
+use Rattle.format.specs.Records.{difference_at}
 use Rattle.region.proofs.Fronts.{front-stands}
 use Rattle.walk.proofs.Emptied.{diff-room, diff-told}
 use Rattle.walk.proofs.empty.diff_empty.Statement.{statement}
@@ -19,10 +19,10 @@ one-refusal-requires : tie.Need-one-refusal-requires
 one-refusal-requires c κs = search rules
 
 returns : tie.Need-returns
-unfolding diff-empty
+unfolding diff_empty
 returns c =
     let x = c.before.before.before.before.before.args in
-    let k = walking x.w x.allowance (length x.out.now) 0 (walk (differenceAt x.w x.s.now 0)) in
+    let k = walking x.w x.allowance (length x.out.now) 0 (walk (difference_at x.w x.s.now 0)) in
     silent-out refl (one-refused x.w x.s.now _ c.before.before.one-refusal.ensures silent k c.if1.true)
 
 header-len-requires : tie.Need-header-len-requires
@@ -81,8 +81,8 @@ returns-3 c =
     (diff-told x.w x.s.now x.allowance (length x.out.now) _ one-refusal.ensures if1.false
     (omega (arith, if2.false, header-len.ensures)) Front-at.ensures.0 v.result (rw cube-len.ensures at v.ensures))
 
-pub diff-empty-spec : {M : Type 1} → statement M
-diff-empty-spec =
+pub diff_empty_spec : {M : Type 1} → statement M
+diff_empty_spec =
     tie.close
     (tie.spec
     one-refusal-requires

@@ -4,12 +4,12 @@ use mathlib.Core.Bool.{true}
 use mathlib.Core.Path.{refl}
 use lib.ListN.{length}
 use borrow.Author.Rules.{rules}
-use Rattle.model.specs.Walk.{walkInclusion, walksLess, stop}
+use Rattle.model.specs.Walk.{walk_inclusion, walks_less, stop}
 use Rattle.format.proofs.Lending.{two-refused, two_lent, silent-out, told-out}
 use Rattle.format.proofs.Recording.{record_of}
-use Rattle.format.specs.Calls.{diff-in}
+use Rattle.format.specs.Calls.{diff_in}
 use Rattle.format.specs.Told.{walking}
-use Rattle.format.specs.Records.{differenceAt}
+use Rattle.format.specs.Records.{difference_at}
 use Rattle.region.proofs.Fronts.{front-stands}
 use Rattle.walk.proofs.Included.{in-room, in_told}
 use Rattle.walk.proofs.inclusion.diff_in.Statement.{statement}
@@ -19,12 +19,12 @@ two-refusal-requires : tie.Need-two-refusal-requires
 two-refusal-requires c κs = search rules
 
 returns : tie.Need-returns
-unfolding diff-in
+unfolding diff_in
 returns c =
     let x = c.before.before.before.before.before.before.args in
-    let a = differenceAt x.w x.s.now 0 in
-    let b = differenceAt x.w x.t.now 0 in
-    let k = walking x.w x.allowance (length x.out.now) (stop x.allowance (walksLess a b)) (walkInclusion a b) in
+    let a = difference_at x.w x.s.now 0 in
+    let b = difference_at x.w x.t.now 0 in
+    let k = walking x.w x.allowance (length x.out.now) (stop x.allowance (walks_less a b)) (walk_inclusion a b) in
     silent-out refl (two-refused x.w x.s.now x.t.now _ c.before.before.two-refusal.ensures k c.if1.true)
 
 header-len-requires : tie.Need-header-len-requires
@@ -91,8 +91,8 @@ returns-3 c =
     (in_told x.w x.s.now x.t.now x.allowance (length x.out.now) _ two-refusal.ensures if1.false
     (omega (arith, if2.false, header-len.ensures)) Front-at.ensures.0 front-at2.ensures.0 v.result (rw cube-len.ensures at v.ensures))
 
-pub diff-in-spec : {M : Type 1} → statement M
-diff-in-spec =
+pub diff_in_spec : {M : Type 1} → statement M
+diff_in_spec =
     tie.close
     (tie.spec
     two-refusal-requires

@@ -4,7 +4,7 @@ use native.Mathlib.Omega.{arith}
 use native.Mathlib.Nat.{mul-le-mul}
 use lib.ListN.{length}
 use borrow.Author.Rules.{rules}
-use Rattle.format.specs.Limits.{widestCube, mostCuts}
+use Rattle.format.specs.Limits.{widest_cube, most_cuts}
 use Rattle.walk.proofs.Moved.{cuts-gathered}
 use Rattle.walk.proofs.inclusion.gathered.Statement.{statement}
 use Rattle.walk.proofs.inclusion.gathered.Tie as tie
@@ -13,8 +13,8 @@ use Rattle.walk.proofs.inclusion.gathered.Tie as tie
 inside : (c : tie.Start) → let x = c.args in x.f.base + x.q + x.f.cuts * x.q ≤ length x.s.now
 inside c = omega (arith, c.requires.first.within)
 
-most : (c : tie.Start) → let x = c.args in x.f.cuts * x.q ≤ mostCuts * widestCube
-most c = mul-le-mul {n₂ = mostCuts} {m₂ = widestCube} c.requires.first.few c.requires.short
+most : (c : tie.Start) → let x = c.args in x.f.cuts * x.q ≤ most_cuts * widest_cube
+most c = mul-le-mul {n₂ = most_cuts} {m₂ = widest_cube} c.requires.first.few c.requires.short
 
 add-from : tie.Need-overflow-add-from
 add-from c = omega (arith, inside c.before.before.before)

@@ -5,8 +5,8 @@ use mathlib.Core.Path.{sym, ap, ap₂, ◌∙◌}
 use lib.ListN.{take, drop, replicate}
 use borrow.Author.Rules.{rules}
 use Rattle.model.specs.Cube.{meet}
-use Rattle.format.specs.Limits.{widestCube}
-use Rattle.cube.specs.Whole.{cubeOf}
+use Rattle.format.specs.Limits.{widest_cube}
+use Rattle.cube.specs.Whole.{cube_of}
 use Rattle.cube.proofs.Wholes.{whole_part, part_length}
 use Rattle.walk.proofs.Moved.{met-piece}
 use Rattle.walk.proofs.inclusion.meet_at.Statement.{statement}
@@ -52,8 +52,8 @@ returns c =
     let b = x.f.base in
     let a = part_length q s b (omega (arith, p.1.within)) in
     let d = part_length q t x.at p.2 in
-    ap (cubeOf q) c.before.meet-into.ensures
-    ∙ met-piece q (take (b + q - b) (drop b s)) (take (x.at + q - x.at) (drop x.at t)) (replicate widestCube 255) (sym a) (sym d) (omega (arith, p.0))
+    ap (cube_of q) c.before.meet-into.ensures
+    ∙ met-piece q (take (b + q - b) (drop b s)) (take (x.at + q - x.at) (drop x.at t)) (replicate widest_cube 255) (sym a) (sym d) (omega (arith, p.0))
     ∙ ap₂ meet (whole_part q s b) (whole_part q t x.at)
 
 pub meet-at-spec : {M : Type 1} → statement M

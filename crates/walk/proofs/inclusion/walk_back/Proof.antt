@@ -7,7 +7,7 @@ use Rattle.model.specs.Cube.{shares}
 use Rattle.model.proofs.Including.{back-met}
 use Rattle.cube.proofs.Wholes.{whole_part}
 use Rattle.cube.specs.Whole.{whole_at}
-use Rattle.region.specs.Front.{wholeDifference}
+use Rattle.region.specs.Front.{whole_difference}
 use Rattle.visits.proofs.Walked.{walked-settles}
 use Rattle.visits.specs.Settle.{settle}
 use Rattle.walk.proofs.Restoring.{back-apart}
@@ -51,7 +51,7 @@ meets-requires c κs = search rules
 returns : tie.Need-returns
 returns c =
     let x = c.before.before.before.before.before.before.before.args in
-    back-apart (wholeDifference x.q x.s.now x.f) (whole_at x.q x.t.now x.at) (sym (shared c.before) ∙ not-true _ c.if1.true) x.a
+    back-apart (whole_difference x.q x.s.now x.f) (whole_at x.q x.t.now x.at) (sym (shared c.before) ∙ not-true _ c.if1.true) x.a
 
 walk-requires : tie.Need-walk-requires
 walk-requires c κs = search rules
@@ -64,7 +64,7 @@ returns-2 c =
     let said = c.walk.ensures
     ∙ walked-settles x.q met.result x.s.now _ _ x.a (p.0, omega (arith, p.1.within), omega (arith, p.1.few), p.3) in
     rw met.ensures at said
-    ∙ ap (settle x.a) (sym (back-met (wholeDifference x.q x.s.now x.f) (whole_at x.q x.t.now x.at) (sym (shared c.before.before) ∙ not-false _ c.before.if1.false)))
+    ∙ ap (settle x.a) (sym (back-met (whole_difference x.q x.s.now x.f) (whole_at x.q x.t.now x.at) (sym (shared c.before.before) ∙ not-false _ c.before.if1.false)))
 
 pub walk-back-spec : {M : Type 1} → statement M
 walk-back-spec =

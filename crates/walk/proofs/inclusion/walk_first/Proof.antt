@@ -5,7 +5,7 @@ use native.Mathlib.Nat.{mul-le-mul}
 use mathlib.Core.Path.{◌≡◌, ◌∙◌}
 use lib.ListN.{length}
 use borrow.Author.Rules.{rules}
-use Rattle.format.specs.Limits.{widestCube, mostCuts}
+use Rattle.format.specs.Limits.{widest_cube, most_cuts}
 use Rattle.visits.proofs.Walked.{walked-settles}
 use Rattle.walk.proofs.Recorded.{loaded}
 use Rattle.walk.proofs.inclusion.walk_first.Statement.{statement}
@@ -33,8 +33,8 @@ returns c =
     let g = c.before.before.before.before.gathered in
     let p = given.0 in
     let l = c.before.before.before.load in
-    let most : (x.f.cuts + 1) * x.q ≤ (mostCuts + 1) * widestCube = mul-le-mul {n₂ = mostCuts + 1} {m₂ = widestCube} (omega (arith, p.first.few)) p.short in
-    let long : length g.result ≡ (mostCuts + 1) * widestCube = search rules in
+    let most : (x.f.cuts + 1) * x.q ≤ (most_cuts + 1) * widest_cube = mul-le-mul {n₂ = most_cuts + 1} {m₂ = widest_cube} (omega (arith, p.first.few)) p.short in
+    let long : length g.result ≡ (most_cuts + 1) * widest_cube = search rules in
     let said = c.walk.ensures
     ∙ walked-settles x.q l.result g.result 0 (x.f.cuts + 1) x.a (p.short, omega arith, omega (arith, p.first.few), given.1) in
     rw (g.ensures, loaded x.q x.s.now x.f.base l.result l.ensures) at said

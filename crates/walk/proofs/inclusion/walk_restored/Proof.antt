@@ -3,7 +3,7 @@ use Prim.Native.Nat.{◌+◌, ◌-◌, ◌*◌, ◌≤◌}
 use native.Mathlib.Omega.{arith}
 use lib.ListN.{length}
 use borrow.Author.Rules.{rules}
-use Rattle.region.specs.Front.{wholeDifference}
+use Rattle.region.specs.Front.{whole_difference}
 use Rattle.visits.proofs.Turn.{is-covered, not_covered}
 use Rattle.visits.proofs.Cuts.{room}
 use Rattle.walk.proofs.Restoring.{CutsLeft, cuts-begun, cuts-turn, cuts-stop, cuts-ended}
@@ -11,7 +11,7 @@ use Rattle.walk.proofs.inclusion.walk_restored.Statement.{statement}
 use Rattle.walk.proofs.inclusion.walk_restored.Tie as tie
 
 abbrev invariant-loop : tie.invariant-loop
-invariant-loop q s f t have₀ at₀ left₀ i₀ have at left i = CutsLeft (wholeDifference q s f) q t at₀ left₀ have₀ have at left i
+invariant-loop q s f t have₀ at₀ left₀ i₀ have at left i = CutsLeft (whole_difference q s f) q t at₀ left₀ have₀ have at left i
 
 abbrev decreases-loop : tie.decreases-loop
 decreases-loop q s f t have₀ at₀ left₀ i₀ have at left i = left

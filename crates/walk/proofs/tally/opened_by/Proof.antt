@@ -6,7 +6,7 @@ use lib.ListN.{length, drop}
 use borrow.Author.Rules.{rules}
 use Rattle.model.specs.Cube.{meet}
 use Rattle.format.specs.Bytes.{codes}
-use Rattle.cube.specs.Count.{freeCount}
+use Rattle.cube.specs.Count.{free_count}
 use Rattle.walk.proofs.Frees.{count_turn, met-turn, lost-fewer, lost-left}
 use Rattle.walk.proofs.tally.opened_by.Statement.{statement}
 use Rattle.walk.proofs.tally.opened_by.Tie as tie
@@ -14,8 +14,8 @@ use Rattle.walk.proofs.tally.opened_by.Tie as tie
 abbrev invariant-loop : tie.invariant-loop
 invariant-loop base cut all₀ met₀ i₀ all met i =
     (i ≤ length base) × (length base ≡ length cut) × (length base ≤ 80) × (all ≤ 4 * i) × (met ≤ 4 * i)
-    × (all + freeCount (codes (drop i base)) ≡ freeCount (codes base))
-    × (met + freeCount (meet (codes (drop i base)) (codes (drop i cut))) ≡ freeCount (meet (codes base) (codes cut)))
+    × (all + free_count (codes (drop i base)) ≡ free_count (codes base))
+    × (met + free_count (meet (codes (drop i base)) (codes (drop i cut))) ≡ free_count (meet (codes base) (codes cut)))
 
 abbrev decreases-loop : tie.decreases-loop
 decreases-loop base cut all₀ met₀ i₀ all met i = length base - i
@@ -56,7 +56,7 @@ loop-again c =
     let l = c.before.before.before.before.before.before.loop in
     let a = c.before.before.before.places in
     let m = c.places2 in
-    let t = freeCount (meet (codes x.base.now) (codes x.cut.now)) in
+    let t = free_count (meet (codes x.base.now) (codes x.cut.now)) in
     let hb : l.i < length x.base.now = search rules in
     let hc : l.i < length x.cut.now = omega (arith, l.invariant.1) in (
       search rules,
@@ -64,7 +64,7 @@ loop-again c =
       search rules,
       omega (arith, a.ensures.1, l.invariant.3),
       omega (arith, m.ensures.1, l.invariant.4),
-      count_turn x.base.now l.i l.all a.result (freeCount (codes x.base.now)) hb a.ensures.0 l.invariant.5,
+      count_turn x.base.now l.i l.all a.result (free_count (codes x.base.now)) hb a.ensures.0 l.invariant.5,
       met-turn x.base.now l.i l.met m.result t hb x.cut.now hc m.ensures.0 l.invariant.6,
     )
 

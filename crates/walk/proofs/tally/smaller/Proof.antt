@@ -6,7 +6,7 @@ use mathlib.Core.List.{List}
 use lib.ListN.{length}
 use borrow.Author.Rules.{rules}
 use Rattle.model.specs.Cube.{Cube}
-use Rattle.model.specs.Ceiling.{ceilingFrom, marks, ceilingOver, capped}
+use Rattle.model.specs.Ceiling.{ceiling_from, marks, ceiling_over, capped}
 use Rattle.format.specs.Bytes.{codes}
 use Rattle.walk.specs.Tally.{lost, Tallied}
 use Rattle.walk.proofs.Caps.{first-smaller, second-smaller}
@@ -35,7 +35,7 @@ raised-requires c κs = search rules
 over : (c : tie.After-struct-known) →
     let x = c.before.before.before.before.before.before.before.before.args in
     let b = x.base.now in
-    (cs : List Cube) → Tallied b cs x.t → c.before.raised.result ≡ capped (ceilingOver (codes b) cs)
+    (cs : List Cube) → Tallied b cs x.t → c.before.raised.result ≡ capped (ceiling_over (codes b) cs)
 over c cs h =
     let x = c.before.before.before.before.before.before.before.before.args in
     let b = x.base.now in
@@ -47,12 +47,12 @@ over c cs h =
 returns : tie.Need-returns
 returns c cs h =
     let b = codes c.before.before.before.before.before.before.before.before.before.args.base.now in
-    second-smaller (ceilingFrom b cs) (ceilingOver b cs) h.nested (over c.before cs h) (omega (arith, c.if1.true))
+    second-smaller (ceiling_from b cs) (ceiling_over b cs) h.nested (over c.before cs h) (omega (arith, c.if1.true))
 
 returns-2 : tie.Need-returns-2
 returns-2 c cs h =
     let b = codes c.before.before.before.before.before.before.before.before.before.args.base.now in
-    first-smaller (ceilingFrom b cs) (ceilingOver b cs) h.nested (over c.before cs h) (omega (arith, c.if1.false))
+    first-smaller (ceiling_from b cs) (ceiling_over b cs) h.nested (over c.before cs h) (omega (arith, c.if1.false))
 
 pub smaller-spec : {M : Type 1} → statement M
 smaller-spec =

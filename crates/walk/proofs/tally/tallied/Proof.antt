@@ -7,9 +7,9 @@ use borrow.Author.Tests.{not-true, not-false}
 use borrow.Author.Rules.{rules}
 use Rattle.model.specs.Cube.{Cube, meet}
 use Rattle.model.specs.Ceiling.{capped}
-use Rattle.format.specs.Limits.{widestCube}
+use Rattle.format.specs.Limits.{widest_cube}
 use Rattle.format.specs.Bytes.{codes}
-use Rattle.cube.specs.Whole.{cubeOf}
+use Rattle.cube.specs.Whole.{cube_of}
 use Rattle.walk.proofs.Tallies.{kept-front, kept-front-length, into-long, tally-apart, tally-met}
 use Rattle.walk.proofs.Moved.{met-piece}
 use Rattle.walk.proofs.tally.tallied.Statement.{statement}
@@ -60,10 +60,10 @@ returns-2 c =
     let into = c.before.before.before.before.meet-into.ensures in
     let front = take (q - 0) x.t.kept in
     let h : q ≤ length x.t.kept = omega (arith, p) in
-    let k = met-piece q front x.cut.now (replicate widestCube 255) (kept-front-length q x.t.kept h) (sym p.0.0) p.0.1 in (
+    let k = met-piece q front x.cut.now (replicate widest_cube 255) (kept-front-length q x.t.kept h) (sym p.0.0) p.0.1 in (
       λ cs g. tally-met b (codes x.cut.now) cs x.t g e h _ (c.before.raised.ensures ∙ f) refl
-          (ap (cubeOf q) into ∙ k ∙ ap (λ (u : Cube). meet u (codes x.cut.now)) (kept-front q x.t.kept)),
-      (ap length into ∙ into-long front x.cut.now (replicate widestCube 255), omega arith),
+          (ap (cube_of q) into ∙ k ∙ ap (λ (u : Cube). meet u (codes x.cut.now)) (kept-front q x.t.kept)),
+      (ap length into ∙ into-long front x.cut.now (replicate widest_cube 255), omega arith),
     )
 
 pub tallied-spec : {M : Type 1} → statement M

@@ -8,7 +8,7 @@ use Rattle.format.specs.Bytes.{codes}
 use Rattle.format.specs.Told.{Told, over, deciding}
 use Rattle.cube.proofs.Showing.{shown-fits}
 use Rattle.visits.specs.declared.allowance.Verdict.{Verdict}
-use Rattle.visits.specs.Settle.{decisionOf}
+use Rattle.visits.specs.Settle.{decision_of}
 use Rattle.walk.specs.declared.stop.Stop.{Stop}
 use Rattle.walk.proofs.told.tell.Statement.{statement}
 use Rattle.walk.proofs.told.tell.Tie as tie
@@ -38,23 +38,23 @@ showing-requires : tie.Need-showing-requires
 showing-requires c κs = search rules
 
 -- what is told, by the verdict alone
-abbrev toldBy : ℕ → Stop → Verdict → Told
-toldBy w x k = deciding w (decisionOf k x.outcome.allowance.spent x.index (take w (codes x.outcome.piece)))
+abbrev told_by : ℕ → Stop → Verdict → Told
+told_by w x k = deciding w (decision_of k x.outcome.allowance.spent x.index (take w (codes x.outcome.piece)))
 
 returns : tie.Need-returns
 returns c =
     let a = c.before.before.before.before.before.before.args in
     let e = sym c.before.enum_told.given.1 in (
-      c.counted.ensures ∙ ap (λ (k : Verdict). (toldBy a.w a.x k).answer) e,
-      ap (λ (k : Verdict). over a.out.now (toldBy a.w a.x k).bytes) e,
+      c.counted.ensures ∙ ap (λ (k : Verdict). (told_by a.w a.x k).answer) e,
+      ap (λ (k : Verdict). over a.out.now (told_by a.w a.x k).bytes) e,
     )
 
 returns-2 : tie.Need-returns-2
 returns-2 c =
     let a = c.before.before.before.before.before.before.args in
     let e = sym c.before.enum-told2.given.1 in (
-      c.undecided.ensures ∙ ap (λ (k : Verdict). (toldBy a.w a.x k).answer) e,
-      ap (λ (k : Verdict). over a.out.now (toldBy a.w a.x k).bytes) e,
+      c.undecided.ensures ∙ ap (λ (k : Verdict). (told_by a.w a.x k).answer) e,
+      ap (λ (k : Verdict). over a.out.now (told_by a.w a.x k).bytes) e,
     )
 
 same_length : tie.Need-same-length
@@ -68,9 +68,9 @@ returns-3 c =
     let o = a.x.outcome in
     let e = sym enum-told3.given.1 in (
       c.showing.ensures ∙ ap (λ (b : ℕ). showing o.allowance.spent b a.x.index) c.before.header-len.ensures
-          ∙ ap (λ (k : Verdict). (toldBy a.w a.x k).answer) e,
+          ∙ ap (λ (k : Verdict). (told_by a.w a.x k).answer) e,
       show.ensures ∙ shown-fits o.piece (search rules) a.out.now a.w (search rules) (search rules)
-          ∙ ap (λ (k : Verdict). over a.out.now (toldBy a.w a.x k).bytes) e,
+          ∙ ap (λ (k : Verdict). over a.out.now (told_by a.w a.x k).bytes) e,
     )
 
 pub tell-spec : {M : Type 1} → statement M
