@@ -32,6 +32,8 @@ RESPELLED = (
     "opensAt piecesOf rowOf saidOf startOf stopAt wholeAt widthBytes widthKind widthOf"
 ).split()
 
+# A definition that would fall together with that of a call.
+APART = {"equalFields": "fields_equal"}
 # Lemmas that would fall together with a definition, with the folders in which they are cited.
 LEMMAS = {
     "same_code": ("same_code-is", "crates/model/proofs/"),
@@ -82,7 +84,7 @@ def turn(words, f):
             return name.replace("-", "_")
         for c in CALLS:
             name = re.sub(r"(^|-)" + c + r"(?=-|$)", lambda m: m.group(1) + c.replace("-", "_"), name)
-        return "-".join(snake(p) if p in words else p for p in name.split("-"))
+        return "-".join(APART.get(p) or snake(p) if p in words else p for p in name.split("-"))
 
     return one
 
@@ -94,7 +96,7 @@ def main():
         with open(f, encoding="utf-8") as text:
             tops = {m.group(1) for m in map(TOP.match, text) if m}
         for w in sorted(words):
-            if snake(w) in tops - set(LEMMAS):
+            if w not in APART and snake(w) in tops - set(LEMMAS):
                 raise SystemExit(f"{f} has {snake(w)} beside {w}: nothing was written")
     sources = antt + crates(".rt")
     pages = crates(".edit") + ["README.md"] + sorted(glob.glob("docs/*.md"))

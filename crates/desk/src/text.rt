@@ -66,5 +66,5 @@ pub(crate) fn put_bytes(text: &mut [u8], held: usize, s: &[u8]) -> usize {
         return put(text, held, b'-');
     }
     flush(text, held);
-    hex::write(s, text)
+    hex_bytes::write(s, text)
 }

@@ -20,7 +20,7 @@ use lib.ListN.{length, get_or, take, drop, set, replicate, length-append, length
 use lib.Seq.{take-suc, set_at, set-append_left, length-take-le}
 use borrow.Rule.Slice.PartMut.{put_mid}
 use Rattle.model.specs.Cube.{Header, Code, v0, v1, free, Cube}
-use Rattle.model.specs.Fields.{bit_code, prefix_cube, apart, unequal, equal_fields}
+use Rattle.model.specs.Fields.{bit_code, prefix_cube, apart, unequal, fields_equal}
 use Rattle.model.proofs.Field.{prefix-length, equal-count}
 use Rattle.model.specs.Padding.{pad}
 use Rattle.format.specs.Limits.{widest_cube, most_cuts}
@@ -128,16 +128,16 @@ cuts-length w p q (suc n) =
 pub cuts-room : (i n z l : ℕ) → i < n → 2 * n * z ≤ l → 2 * i * z + 2 * z ≤ l
 cuts-room i n z l h r = let e : 2 * i + 2 ≤ 2 * n = omega arith in omega (arith, mul-le-mul_right z e)
 
-pub equal-cuts : (w p q n : ℕ) → length (equal_fields w p q n).cuts ≡ 2 * pairs p q n
-unfolding equal_fields
+pub equal-cuts : (w p q n : ℕ) → length (fields_equal w p q n).cuts ≡ 2 * pairs p q n
+unfolding fields_equal
 equal-cuts w p q n = go (eqb p q)
   where
     go : (b : Bool) → length (cond b [] (unequal w p q n)) ≡ 2 * cond b 0 n
     go true = refl
     go false = equal-count w p q n
 
-pub equal-bytes : (w p q n : ℕ) → difference_bytes w (equal_fields w p q n) ≡ equal_bytes w p q (pairs p q n)
-unfolding difference_bytes equal_fields
+pub equal-bytes : (w p q n : ℕ) → difference_bytes w (fields_equal w p q n) ≡ equal_bytes w p q (pairs p q n)
+unfolding difference_bytes fields_equal
 equal-bytes w p q n = go (eqb p q)
   where
     go : (b : Bool) → front_bytes (length (cond b [] (unequal w p q n))) (cube_len w) ++ cubes_bytes (replicate w free ∷ cond b [] (unequal w p q n))
@@ -153,7 +153,7 @@ pairs-few p q n = go (eqb p q)
     go false = omega arith
 
 pub equal-size : (w p q n : ℕ) → 2 * pairs p q n ≤ most_cuts → cube_len w ≤ widest_cube
-    → length (difference_bytes w (equal_fields w p q n)) ≡ record_len (2 * pairs p q n) (cube_len w)
+    → length (difference_bytes w (fields_equal w p q n)) ≡ record_len (2 * pairs p q n) (cube_len w)
 equal-size w p q n few short =
     let k = pairs p q n in
     let b : length (write_cube (replicate w free)) ≡ cube_len w = ap length (sym (free_bytes w)) ∙ length-replicate (cube_len w) 255 in

@@ -6,7 +6,7 @@ use Rattle.model.specs.Cube.{v0, v1, free}
 use Rattle.model.specs.Difference.{less}
 use Rattle.model.specs.Tidy.{tidy, tidy_from}
 use Rattle.model.specs.Algebra.{intersection, restored}
-use Rattle.model.specs.Fields.{unequal, equal_fields}
+use Rattle.model.specs.Fields.{unequal, fields_equal}
 use Rattle.model.specs.Walk.{visit, decide}
 use Rattle.model.specs.Ceiling.{frees, ceiling_from, meeting, mark, matters, marks}
 use Rattle.answer.specs.Answer.{fault, counted, undecided, showing, wrote}
@@ -46,6 +46,6 @@ pub figures :
     -- P10: W 2, 1* less 0* tidies to 1* with no cut
     × (tidy (less (v1 ∷ free ∷ []) ((v0 ∷ free ∷ []) ∷ [])) ≡ less (v1 ∷ free ∷ []) [] ∷ [])
 unfolding outcome passes read_header header_bytes read_cube cube_bytes cube_fault lent_fault count_at front_len base_at cube_at cubes_at cubes_fault width_fault
-    difference_fault front_bytes difference_bytes file_bytes tidy_from intersection restored unequal equal_fields visit decide frees ceiling_from meeting mark
+    difference_fault front_bytes difference_bytes file_bytes tidy_from intersection restored unequal fields_equal visit decide frees ceiling_from meeting mark
     matters marks cube_in diff_less diff_empty ceiling_of equal_fields
 figures = (refl, refl, refl, refl, refl, refl, refl, refl, refl, refl, refl, refl, refl)

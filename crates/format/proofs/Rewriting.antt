@@ -19,7 +19,7 @@ use Rattle.model.specs.Difference.{Difference, Region, in_difference, in_region}
 use Rattle.model.specs.Sized.{All, Sized, Good}
 use Rattle.model.specs.Tidy.{tidy_region}
 use Rattle.model.specs.Algebra.{intersection, intersections, subtraction, subtractions}
-use Rattle.model.specs.Fields.{same_bits, prefix_cube, equal_fields}
+use Rattle.model.specs.Fields.{same_bits, prefix_cube, fields_equal}
 use Rattle.model.proofs.Cubes.{in_meet}
 use Rattle.model.proofs.Tidying.{in-tidy_region, tidy-tidy, tidy_region-keeps, sized-meet}
 use Rattle.model.proofs.Setting.{in-intersection, in-intersections, in-subtraction, in-subtractions}
@@ -220,17 +220,17 @@ module _ (w s n m : ℕ) (value : List ℕ) (room : ℕ) (e : (prefix w s n m va
 
 -- a single record
 module _ (w p q n room : ℕ) (e : (equal_fields w p q n room).answer.number ≡ 0) where
-  equal-facts : (w ≤ widest) × (p + n ≤ w) × (q + n ≤ w) × (length (equal_fields w p q n).cuts ≤ most_cuts)
-      × ((equal_fields w p q n room).bytes ≡ difference_bytes w (equal_fields w p q n))
+  equal-facts : (w ≤ widest) × (p + n ≤ w) × (q + n ≤ w) × (length (fields_equal w p q n).cuts ≤ most_cuts)
+      × ((equal_fields w p q n room).bytes ≡ difference_bytes w (fields_equal w p q n))
   unfolding equal_fields
   equal-facts =
       let f = passed _ e (omega arith) in
       (f.1.0, f.1.1.1.0, f.1.1.1.1.0, f.1.1.1.1.1.0, ap (λ (x : Told). x.bytes) f.1.1.1.1.1.1.1)
 
   pub equal_fields-written : (difference_fault true w 0 (equal_fields w p q n room).bytes 0 ≡ 0)
-      × (difference_at w (equal_fields w p q n room).bytes 0 ≡ equal_fields w p q n)
+      × (difference_at w (equal_fields w p q n room).bytes 0 ≡ fields_equal w p q n)
   equal_fields-written =
-      let d = equal_fields w p q n in
+      let d = fields_equal w p q n in
       let g = good-equal w p q n in
       let f = equal-facts in
       rw f.4 (alone-accepted w d g f.3 f.0, alone-difference w d g f.3 f.0)

@@ -23,7 +23,7 @@ use Rattle.model.specs.Cube.{meet, shares, within}
 use Rattle.model.specs.Difference.{first_holder}
 use Rattle.model.specs.Tidy.{tidy_region}
 use Rattle.model.specs.Algebra.{intersection, intersections, subtraction, subtractions}
-use Rattle.model.specs.Fields.{prefix_cube, equal_fields}
+use Rattle.model.specs.Fields.{prefix_cube, fields_equal}
 use Rattle.model.specs.Walk.{walk, walk_region, walk_inclusion, walks_less, stop}
 use Rattle.model.specs.Ceiling.{ceiling, capped}
 use Rattle.answer.specs.declared.Answer.{Answer}
@@ -201,8 +201,8 @@ equal_fields w p q n room =
     (row (is n 0) (silent (refused 21))
     (row (below w (p + n)) (silent (refused 21))
     (row (below w (q + n)) (silent (refused 21))
-    (row (below most_cuts (length (equal_fields w p q n).cuts)) (silent (refused 18))
-    (writing (difference_bytes w (equal_fields w p q n)) room))))))
+    (row (below most_cuts (length (fields_equal w p q n).cuts)) (silent (refused 18))
+    (writing (difference_bytes w (fields_equal w p q n)) room))))))
 
 -- views
 

@@ -2,7 +2,7 @@
 --   walk-alike    alike pieces have walks of the same count, and nothing survives in both or in neither
 use Prim.Native.Nat.{ℕ}
 use native.Mathlib.Omega.{arith}
-use mathlib.Core.Path.{◌≡◌, refl, sym, ◌∙◌}
+use mathlib.Core.Path.{◌≡◌, refl, sym, subst, ◌∙◌}
 use mathlib.Core.List.{List, [], ◌∷◌, map}
 use mathlib.Core.Bool.{Bool, true, false, cond, true≢false, false≢true}
 use Rattle.model.specs.Cube.{Code, none, v0, v1, free, Cube, meet_code, coded, shares}
@@ -97,10 +97,10 @@ children-narrowed (x ∷ p) (y ∷ q) (z ∷ c) e f o =
         (cond g ((other z ∷ q) ∷ map (λ k. z ∷ k) (children q c)) (map (λ k. y ∷ k) (children q c)))
     go true u ih =
         let t = opens-true x z u in
-        rw (t.0, (opens-true y z (sym same ∙ u)).0) (
-          value t.2 rest,
-          pairs-map (Narrowed p q) (Narrowed (free ∷ p) (free ∷ q)) (λ k. z ∷ k) (λ k. z ∷ k) (λ r s n. value t.1 n) (children p c) (children q c) ih,
-        )
+        let P : Code → Code → Type 0 = λ v w. Pairs (Narrowed (v ∷ p) (w ∷ q)) ((other z ∷ p) ∷ map (λ k. z ∷ k) (children p c)) ((other z ∷ q) ∷ map (λ k. z ∷ k) (children q c)) in
+        let both : P free free =
+        (value t.2 rest, pairs-map (Narrowed p q) (Narrowed (free ∷ p) (free ∷ q)) (λ k. z ∷ k) (λ k. z ∷ k) (λ r s n. value t.1 n) (children p c) (children q c) ih) in
+        subst (λ v. P v y) (sym t.0) (subst (λ w. P free w) (sym (opens-true y z (sym same ∙ u)).0) both)
     go false u ih = pairs-map (Narrowed p q) (Narrowed (x ∷ p) (y ∷ q)) (λ k. x ∷ k) (λ k. y ∷ k) (λ r s n. stay n) (children p c) (children q c) ih
 
 -- walks one after another, alike pair by pair

@@ -20,7 +20,7 @@ use borrow.Author.Tests.{eqb-true, eqb-false, leb-true, leb-false}
 use Rattle.model.specs.Cube.{Header, Code, none, v0, v1, free, Cube, admits, holds, meet, coded, solid, same_code, same}
 use Rattle.model.specs.Difference.{less, any_holds, in_difference}
 use Rattle.model.specs.Tidy.{among, tidy_from, tidy}
-use Rattle.model.specs.Fields.{bit_code, same_bits, prefix_cube, apart, unequal, equal_fields}
+use Rattle.model.specs.Fields.{bit_code, same_bits, prefix_cube, apart, unequal, fields_equal}
 use Rattle.model.proofs.Bools.{and_both, and_left, and_right}
 use Rattle.model.specs.Sized.{All, Sized, Good}
 use Rattle.model.proofs.Tidying.{all_append}
@@ -140,11 +140,11 @@ bits-self (true ∷ u) = bits-self u
 bits-self (false ∷ u) = bits-self u
 
 pub in-equal : (w p q n : ℕ) (h : Header) → length h ≡ w → p + n ≤ w → q + n ≤ w
-    → in_difference (equal_fields w p q n) h ≡ same_bits (take n (drop p h)) (take n (drop q h))
-unfolding equal_fields
+    → in_difference (fields_equal w p q n) h ≡ same_bits (take n (drop p h)) (take n (drop q h))
+unfolding fields_equal
 in-equal w p q n h e f g = go (eqb p q) refl
   where
-    go : (t : Bool) → eqb p q ≡ t → in_difference (equal_fields w p q n) h ≡ same_bits (take n (drop p h)) (take n (drop q h))
+    go : (t : Bool) → eqb p q ≡ t → in_difference (fields_equal w p q n) h ≡ same_bits (take n (drop p h)) (take n (drop q h))
     go true i = rw (i, holds-free w h e, eqb-true p q i) (sym (bits-self (take n (drop q h))))
     go false i = rw (i, holds-free w h e) (in-unequal w p q n h e f g (eqb-false p q i))
 
@@ -173,11 +173,11 @@ unfolding unequal
 sized-unequal w p q zero = tt
 sized-unequal w p q (suc n) = (sized-apart w p q v0 v1 refl refl, (sized-apart w p q v1 v0 refl refl, sized-unequal w (p + 1) (q + 1) n))
 
-pub good-equal : (w p q n : ℕ) → Good w (equal_fields w p q n)
-unfolding equal_fields
+pub good-equal : (w p q n : ℕ) → Good w (fields_equal w p q n)
+unfolding fields_equal
 good-equal w p q n = go (eqb p q) refl
   where
-    go : (t : Bool) → eqb p q ≡ t → Good w (equal_fields w p q n)
+    go : (t : Bool) → eqb p q ≡ t → Good w (fields_equal w p q n)
     go true e = record { base = sized-free w; cuts = rw e tt }
     go false e = record { base = sized-free w; cuts = rw e (sized-unequal w p q n) }
 
@@ -277,10 +277,10 @@ tidy-unequal w p q (suc n) ks f g d a =
     ∙ tidy-unequal w (p + 1) (q + 1) n (ks ++ pair w p q) (omega arith) (omega arith) (omega arith) (clear-pair w p q ks a)
     ∙ rw (append_assoc ks (pair w p q) (unequal w (p + 1) (q + 1) n))
 
-pub equal-tidy : (w p q n : ℕ) → p + n ≤ w → q + n ≤ w → tidy (equal_fields w p q n) ≡ equal_fields w p q n ∷ []
-unfolding tidy_from equal_fields
+pub equal-tidy : (w p q n : ℕ) → p + n ≤ w → q + n ≤ w → tidy (fields_equal w p q n) ≡ fields_equal w p q n ∷ []
+unfolding tidy_from fields_equal
 equal-tidy w p q n f g = go (eqb p q) refl
   where
-    go : (t : Bool) → eqb p q ≡ t → tidy (equal_fields w p q n) ≡ equal_fields w p q n ∷ []
+    go : (t : Bool) → eqb p q ≡ t → tidy (fields_equal w p q n) ≡ fields_equal w p q n ∷ []
     go true e = rw e
     go false e = rw e (tidy-unequal w p q n [] f g (eqb-false p q e) tt)

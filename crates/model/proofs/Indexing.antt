@@ -23,18 +23,18 @@ use Rattle.model.proofs.Walking.{survivor-in, nothing-in}
 use Rattle.model.proofs.Stopping.{stopped-before, stopped-member, stopped-undecided, region-in-turn}
 use Rattle.model.proofs.Including.{less-in-turn}
 
-record Finds (d : Difference) (v : Found) : Type 0 where
-  none : v.survivor ≡ nothing → (h : Header) → in_difference d h ≡ false
-  some : (q : Cube) → v.survivor ≡ piece q → (h : Header) → holds q h ≡ true → in_difference d h ≡ true
+pub record Finds (d : Difference) (v : Found) : Type 0 where
+  pub none : v.survivor ≡ nothing → (h : Header) → in_difference d h ≡ false
+  pub some : (q : Cube) → v.survivor ≡ piece q → (h : Header) → holds q h ≡ true → in_difference d h ≡ true
 
-data Walks : Region → List Found → Type 0 where
+pub data Walks : Region → List Found → Type 0 where
   none_left : Walks [] []
   one_more : {d : Difference} {r : Region} {v : Found} {vs : List Found} → Finds d v → Walks r vs → Walks (d ∷ r) (v ∷ vs)
 
 walk-finds : (d : Difference) → Finds d (walk d)
 walk-finds d = record { none = nothing-in d.cuts d.base; some = survivor-in d.cuts d.base }
 
-region-walks : (r : Region) → Walks r (map walk r)
+pub region-walks : (r : Region) → Walks r (map walk r)
 region-walks [] = none_left
 region-walks (d ∷ r) = one_more (walk-finds d) (region-walks r)
 
@@ -50,7 +50,7 @@ back-finds a c = go (shares a.base c) refl
     go true e = walk-finds (given_back a c)
     go false e = record { none = λ n. back_none a c e; some = λ q n h k. cc }
 
-less-walks : (a b : Difference) → Walks (pieces_less a b) (walks_less a b)
+pub less-walks : (a b : Difference) → Walks (pieces_less a b) (walks_less a b)
 less-walks a b = one_more (walk-finds (less a.base (a.cuts ++ (b.base ∷ [])))) (go b.cuts)
   where
     go : (cs : List Cube) → Walks (map (given_back a) cs) (map (walk_back a) cs)

@@ -4,7 +4,7 @@
 --   prefix_cube w s m v     == the cube of w positions that fixes those from s on to the first m bits of v
 --   apart w p q x y        == the cube of w positions with the code x at p and y at q
 --   unequal w p q n        == for each of n positions from p and from q on, the cut with 0 and 1, then the cut with 1 and 0
---   equal_fields w p q n    == the headers of w positions whose fields of n positions at p and at q are equal
+--   fields_equal w p q n    == the headers of w positions whose fields of n positions at p and at q are equal
 use Rattle.std.specs.Prelude.{ℕ, zero, suc, ◌+◌, ◌-◌, List, [], ◌∷◌, ◌++◌, map, Bool, true, false, ◌&&◌, cond, eqb, take, set, replicate}
 use Rattle.std.specs.Bool.{beq}
 use Rattle.model.specs.Cube.{Header, Code, v0, v1, free, Cube}
@@ -35,5 +35,5 @@ unequal w p q zero = []
 unequal w p q (suc n) = apart w p q v0 v1 ∷ apart w p q v1 v0 ∷ unequal w (p + 1) (q + 1) n
 
 -- FORMAT 83
-unfoldable pub equal_fields : ℕ → ℕ → ℕ → ℕ → Difference
-equal_fields w p q n = less (replicate w free) (cond (eqb p q) [] (unequal w p q n))
+unfoldable pub fields_equal : ℕ → ℕ → ℕ → ℕ → Difference
+fields_equal w p q n = less (replicate w free) (cond (eqb p q) [] (unequal w p q n))

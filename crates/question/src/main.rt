@@ -36,7 +36,7 @@ fn put_number(n: u64) {
 // Bytes in capital hex after a space: a header, two digits to a byte.
 fn put_hex(bytes: &[u8]) {
     let mut digits = [0u8; 2 * WIDEST_HEADER];
-    let n = hex::write(bytes, &mut digits);
+    let n = hex_bytes::write(bytes, &mut digits);
     put(b" ");
     put(&digits[0..n]);
 }

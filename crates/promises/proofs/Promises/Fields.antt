@@ -16,7 +16,7 @@ use borrow.Author.Tests.{eqb-true, eqb-false}
 use Rattle.model.specs.Cube.{Header, holds}
 use Rattle.model.specs.Difference.{Difference, in_difference}
 use Rattle.model.specs.Tidy.{tidy}
-use Rattle.model.specs.Fields.{same_bits, prefix_cube, unequal, equal_fields}
+use Rattle.model.specs.Fields.{same_bits, prefix_cube, unequal, fields_equal}
 use Rattle.model.proofs.Field.{prefix-length, equal-count, equal-tidy}
 use Rattle.format.specs.Limits.{most_cuts}
 use Rattle.format.specs.Bytes.{cube_len, bits, read_cube, write_cube}
@@ -77,8 +77,8 @@ pub equal_fields-promise : Promise equal_fields-call.Kinds.ps equal_fields-call.
 equal_fields-promise = record { anything = λ κs a. tt; permits = λ κs a x e. permitted }
 
 module _ (w p q n : ℕ) where
-  few-cuts : (length (equal_fields w p q n).cuts ≤ most_cuts) ↔ ((p ≡ q → ⊥) → n ≤ 32)
-  unfolding equal_fields
+  few-cuts : (length (fields_equal w p q n).cuts ≤ most_cuts) ↔ ((p ≡ q → ⊥) → n ≤ 32)
+  unfolding fields_equal
   few-cuts = go (eqb p q) refl
     where
       go : (b : Bool) → eqb p q ≡ b → (length (cond b [] (unequal w p q n)) ≤ most_cuts) ↔ ((p ≡ q → ⊥) → n ≤ 32)
@@ -89,7 +89,7 @@ module _ (w p q n : ℕ) where
   equal_fields-agrees old = agree _ _
 
   pub equal_fields-answered : (room : ℕ)
-      → let bs = difference_bytes w (equal_fields w p q n) in
+      → let bs = difference_bytes w (fields_equal w p q n) in
       Tells (Fields w p q n × (length bs ≤ room)) (writes bs) (equal_fields w p q n room)
   unfolding equal_fields
   equal_fields-answered room = by-table 7 _ (omega arith) (λ passed. search (arith, few-cuts.0)) (λ o. search (arith, few-cuts.1))
@@ -103,7 +103,7 @@ module _ (w p q n : ℕ) where
   equal_fields-means = Rewriting.in-equal_fields w p q n
 
   pub equal_fields-written : (room : ℕ) → (equal_fields w p q n room).answer.number ≡ 0
-      → (difference_fault true w 0 (equal_fields w p q n room).bytes 0 ≡ 0) × (difference_at w (equal_fields w p q n room).bytes 0 ≡ equal_fields w p q n)
+      → (difference_fault true w 0 (equal_fields w p q n room).bytes 0 ≡ 0) × (difference_at w (equal_fields w p q n room).bytes 0 ≡ fields_equal w p q n)
   equal_fields-written = Rewriting.equal_fields-written w p q n
 
   pub equal_fields-tidy : (room : ℕ) → (equal_fields w p q n room).answer.number ≡ 0

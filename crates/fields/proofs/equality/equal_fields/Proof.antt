@@ -4,7 +4,7 @@ use native.Mathlib.Omega.{arith}
 use mathlib.Core.Path.{◌≡◌, refl, sym, ap, ◌∙◌}
 use lib.ListN.{length}
 use borrow.Author.Rules.{rules}
-use Rattle.model.specs.Fields.{equal_fields}
+use Rattle.model.specs.Fields.{fields_equal}
 use Rattle.answer.specs.Answer.{wrote}
 use Rattle.format.specs.Rows.{outcome}
 use Rattle.format.specs.Records.{difference_bytes}
@@ -35,7 +35,7 @@ module _ (c : tie.After-record-len) where
   abbrev start : tie.Start
   start = stand.before.before.before.before.before.before.before
 
-  size : let x = start.args in length (difference_bytes x.w (equal_fields x.w x.p x.q x.n)) ≡ c.record-len.result
+  size : let x = start.args in length (difference_bytes x.w (fields_equal x.w x.p x.q x.n)) ≡ c.record-len.result
   size =
       let x = start.args in
       let n = few.before.pairs_of.ensures in
@@ -43,7 +43,7 @@ module _ (c : tie.After-record-len) where
       ∙ sym (rw (c.before.cube-len.ensures, n) at c.record-len.ensures)
 
   goes_on : let x = start.args in
-      outcome (writing (difference_bytes x.w (equal_fields x.w x.p x.q x.n)) (length x.out.now))
+      outcome (writing (difference_bytes x.w (fields_equal x.w x.p x.q x.n)) (length x.out.now))
       ≡ equal_fields x.w x.p x.q x.n (length x.out.now)
   unfolding equal_fields
   goes_on =

@@ -1,6 +1,6 @@
 // Bytes in capital hex.
 ghost use Rattle.std.specs.Prelude.{◌<◌, min, ◌≡◌};
-ghost use Rattle.hex.specs.Digits.{hex_digit, InHex};
+ghost use Rattle.hex_bytes.specs.Digits.{hex_digit, InHex};
 
 // The digit of a number below 16.
 fn digit(n: u8) -> u8

@@ -1,14 +1,14 @@
--- `hex::write` meets its contract. The loop's invariant: the digits of the first i bytes are written.
+-- `hex_bytes::write` meets its contract. The loop's invariant: the digits of the first i bytes are written.
 use Prim.Native.Nat.{◌-◌, ◌≤◌}
 use native.Mathlib.Numerals.{add-one}
 use native.Mathlib.Omega.{arith}
 use mathlib.Core.Path.{◌≡◌, refl}
 use lib.ListN.{length, take, length-set}
 use borrow.Author.Rules.{rules}
-use Rattle.hex.proofs.Writing.{one_more}
-use Rattle.hex.specs.Digits.{with_digits, fitting}
-use Rattle.hex.proofs.write.Statement.{statement}
-use Rattle.hex.proofs.write.Tie as tie
+use Rattle.hex_bytes.proofs.Writing.{one_more}
+use Rattle.hex_bytes.specs.Digits.{with_digits, fitting}
+use Rattle.hex_bytes.proofs.write.Statement.{statement}
+use Rattle.hex_bytes.proofs.write.Tie as tie
 
 abbrev invariant-loop : tie.invariant-loop
 invariant-loop s out₀ n i₀ out i = (i ≤ n) × (length out ≡ length out₀) × (out ≡ with_digits out₀ (take i s))

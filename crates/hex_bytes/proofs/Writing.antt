@@ -6,7 +6,7 @@ use Prim.Native.Nat.{ℕ, zero, suc, ◌+◌, ◌*◌, ◌/◌, ◌%◌, ◌<◌
 use native.Mathlib.Nat.{not-suc-le-zero, le_of_suc-le-suc}
 use native.Mathlib.Omega.{arith}
 use lib.ListN.{length, get_or, take, set}
-use Rattle.hex.specs.Digits.{hex_digit, with_digits}
+use Rattle.hex_bytes.specs.Digits.{hex_digit, with_digits}
 
 pub one_more : (s old : List ℕ) (i : ℕ) → i < length s → 2 * i + 1 < length old
     → set (set (with_digits old (take i s)) (2 * i) (hex_digit (get_or s i 0 / 16))) (2 * i + 1) (hex_digit (get_or s i 0 % 16)) ≡ with_digits old (take (suc i) s)

@@ -1,8 +1,8 @@
--- `hex::digit` meets its contract.
+-- `hex_bytes::digit` meets its contract.
 use borrow.Author.Rules.{rules}
 use borrow.Author.Tests.{lt-ltb, le-ltb}
-use Rattle.hex.proofs.digit.Statement.{statement}
-use Rattle.hex.proofs.digit.Tie as tie
+use Rattle.hex_bytes.proofs.digit.Statement.{statement}
+use Rattle.hex_bytes.proofs.digit.Tie as tie
 
 add-result : tie.Need-overflow-add-result
 add-result c = search rules
