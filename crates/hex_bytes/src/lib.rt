@@ -1,4 +1,6 @@
 // Bytes in capital hex.
+#![tactic(auto)]
+
 ghost use Rattle.std.specs.Prelude.{◌<◌, min, ◌≡◌};
 ghost use Rattle.hex_bytes.specs.Digits.{hex_digit, InHex};
 
