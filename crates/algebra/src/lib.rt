@@ -1,4 +1,6 @@
 // What writes regions: tidying, intersection and subtraction.
+#![tactic(auto)]
+
 mod call;
 mod compare;
 mod piece;

@@ -1,5 +1,7 @@
 // The result of every call, by value, with the six parts of FORMAT 26. It is made only by the functions below, which
 // have the same names in specs/, so that a part can be added here and nowhere else.
+#![tactic(auto)]
+
 ghost use Rattle.std.specs.Prelude.{◌≡◌};
 ghost use Rattle.answer.specs.Answer.{accepted, yes, no, holding, refused, fault, counted, undecided, showing, wrote, placed};
 

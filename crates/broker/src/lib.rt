@@ -1,4 +1,6 @@
 // What the packet broker's C host asks of a region file: membership and emptiness, on plain numbers and byte buffers.
+#![tactic(auto)]
+
 ghost use Rattle.std.specs.Prelude.{◌≡◌, length};
 ghost use Rattle.format.specs.Told.{over};
 ghost use Rattle.format.specs.Calls.{region_member, region_empty};

@@ -1,5 +1,7 @@
 // Header bytes and cube bytes: how many there are, what is wrong with them, whether cubes meet, lie in each other and are the same, their codes read and
 // written, the header that a piece shows, bytes laid into a buffer; and the public questions about two lent cubes.
+#![tactic(auto)]
+
 mod call;
 mod code;
 mod compare;

@@ -1,4 +1,6 @@
 // Answers questions: on each line of the standard input a call's name and its arguments, for each a line of the standard output.
+#![tactic(auto)]
+
 mod answers;
 mod arguments;
 mod calls;

@@ -1,4 +1,6 @@
 // Fields of a header: prefix constraints and equality of two fields, as the cubes and differences that hold exactly the headers asked for.
+#![tactic(auto)]
+
 mod bounds;
 mod equality;
 mod prefixes;

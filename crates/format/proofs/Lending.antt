@@ -6,6 +6,7 @@
 --   width-lent, pair-lent, one_lent, two_lent, record-lent, bits-lent    where there is none, what was lent is accepted
 --   file-refused, file-passed    a file's refusal is what the table gives; where there is none, the table goes on
 --   silent-out, told-out    the result and the buffer of a call that is lent one: where nothing is written, and where x is told
+--   silent-answer, silent-bytes, told-answer, told-bytes    each of the two by itself
 --   frame_refused, frame-clean    what is wrong with a record's length or kind is what the table gives; where nothing
 --                      is, each test fails
 --   numbers-refused, numbers-passed, numbers-clean    likewise of all that stands before a record's cubes; where
@@ -126,6 +127,18 @@ silent-out {old = old} e f = (e ∙ ap (λ (x : Told). x.answer) f, ap (λ (x : 
 pub told-out : {x t : Told} {r : Answer} (old : List ℕ) {new : List ℕ} → r ≡ x.answer → new ≡ over old x.bytes → x ≡ t
     → (r ≡ t.answer) × (new ≡ over old t.bytes)
 told-out old e f g = (e ∙ ap (λ (y : Told). y.answer) g, f ∙ ap (λ (y : Told). over old y.bytes) g)
+
+pub silent-answer : {t : Told} {r a : Answer} → r ≡ a → silent a ≡ t → r ≡ t.answer
+silent-answer e f = e ∙ ap (λ (x : Told). x.answer) f
+
+pub silent-bytes : {t : Told} {a : Answer} {old : List ℕ} → silent a ≡ t → old ≡ over old t.bytes
+silent-bytes {old = old} f = ap (λ (x : Told). over old x.bytes) f
+
+pub told-answer : {x t : Told} {r : Answer} → r ≡ x.answer → x ≡ t → r ≡ t.answer
+told-answer e g = e ∙ ap (λ (y : Told). y.answer) g
+
+pub told-bytes : {x t : Told} (old : List ℕ) {new : List ℕ} → new ≡ over old x.bytes → x ≡ t → new ≡ over old t.bytes
+told-bytes old f g = f ∙ ap (λ (y : Told). over old y.bytes) g
 
 -- the length and the kind of a record, and all its numbers: r is what is wrong, or 0
 module _ (kind : ℕ) (s : List ℕ) (at r : ℕ) (e : r ≡ outcome (frame_rows kind s at)) where

@@ -1,4 +1,6 @@
 // Reads a region file on standard input and writes one line: whether no header can come through, or one that can.
+#![tactic(auto)]
+
 ghost use Rattle.std.specs.Prelude.{◌≡◌, length};
 ghost use Rattle.format.specs.Limits.{widest_header};
 ghost use Rattle.format.specs.Told.{over};

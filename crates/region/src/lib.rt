@@ -1,5 +1,7 @@
 // Records and region files: read with every refusal in its order, asked, viewed and read on; and what writes a record. A record's layout is known here and
 // nowhere above.
+#![tactic(auto)]
+
 mod asking;
 mod bytes;
 mod calls;

@@ -1,4 +1,6 @@
 // The walk over bytes: a piece and the cuts left, and the pieces that follow from them, visited one after another on an allowance.
+#![tactic(auto)]
+
 mod alive;
 mod allowance;
 mod codes;

@@ -1,4 +1,6 @@
 // The walk of records and region files on an allowance: emptiness, inclusion, the ceiling.
+#![tactic(auto)]
+
 mod ceilings;
 mod empty;
 mod inclusion;
