@@ -13,7 +13,7 @@ use region::{MOST_CUTS, MOST_DIFFERENCES, TAKEN_CUTS, front_at, put_record, reco
 
 // What is counted of a result: whether a difference has too many cuts, how many differences there are, and the bytes of their records. A result with
 // too many differences is counted to the first that is too much, and after that only looked through for one with too many cuts.
-#[derive(Drop)]
+#[derive(Clone, Copy)]
 pub(crate) struct Totals {
     pub(crate) long: bool,
     pub(crate) count: usize,

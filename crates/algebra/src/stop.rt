@@ -5,7 +5,7 @@ ghost use Rattle.algebra.specs.Stops.{stop_at, Room};
 use region::front_at;
 
 // What is done to the differences of the first operand; subtraction is given where the base of its single record starts.
-#[derive(Drop)]
+#[derive(Clone, Copy)]
 pub(crate) enum Operation {
     Tidy,
     Intersect,
@@ -14,7 +14,7 @@ pub(crate) enum Operation {
 
 // What a stop adds to a difference of the first operand: a cube that the base is met with, where `meets` says so, and a stretch of cuts. Then
 // follows the next stop.
-#[derive(Drop)]
+#[derive(Clone, Copy)]
 pub(crate) struct Stop {
     pub(crate) meets: bool,
     pub(crate) cube: usize,

@@ -9,7 +9,7 @@ use super::compare::one_of;
 use cube::equal;
 
 // What becomes of a piece: the cuts kept so far, or that it is omitted.
-#[derive(Drop)]
+#[derive(Clone, Copy)]
 pub(crate) enum Made {
     Omitted,
     Kept(usize),

@@ -9,7 +9,7 @@ use super::width::{first_at, width_fault, width_of};
 use cube::cube_len;
 
 // What reading a file finds, and which of its differences is the first that holds the header asked for; a refused file has none.
-#[derive(Drop)]
+#[derive(Clone, Copy)]
 pub(crate) struct Asked {
     pub(crate) file: File,
     pub(crate) holder: Holder,

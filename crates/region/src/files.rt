@@ -7,7 +7,7 @@ use super::width::{first_at, width_fault, width_of};
 
 // What reading a file finds: its refusal, 0 for none, and the offset of the record at fault; the width that kind 1 states; how many differences an
 // accepted file has.
-#[derive(Drop)]
+#[derive(Clone, Copy)]
 pub struct File {
     pub number: u8,
     pub offset: usize,

@@ -8,7 +8,7 @@ use cube::least;
 
 // What the record at an offset says of itself: its length and its kind; and of a difference how many cuts it has, where its base starts and where it
 // ends.
-#[derive(Drop)]
+#[derive(Clone, Copy)]
 pub struct Front {
     pub(crate) length: usize,
     pub(crate) kind: usize,

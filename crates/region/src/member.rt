@@ -47,7 +47,7 @@ fn in_difference(s: &[u8], front: Front, q: usize, h: &[u8]) -> bool
 }
 
 // The first difference that holds a header: none, or its index.
-#[derive(Drop)]
+#[derive(Clone, Copy)]
 pub(crate) enum Holder {
     Unheld,
     Held(u16),

@@ -8,14 +8,14 @@ use super::steps::{Step, read_on};
 use answer::Answer;
 
 // A file that is read difference by difference, and the place of the next step.
-#[derive(Drop)]
+#[derive(Clone, Copy)]
 pub struct Reader<'a> {
     pub file: &'a [u8],
     pub place: usize,
 }
 
 // What a step of a reader gives: its result, and the reader with its next place.
-#[derive(Drop)]
+#[derive(Clone, Copy)]
 pub struct Turn<'a> {
     pub answer: Answer,
     pub reader: Reader<'a>,

@@ -83,7 +83,7 @@ pub(crate) fn alone_fault(s: &[u8], w: usize) -> u8
 }
 
 // A record of a file that was read: what is wrong with it, or 0, and its front.
-#[derive(Drop)]
+#[derive(Clone, Copy)]
 pub(crate) struct Read {
     pub(crate) number: u8,
     pub(crate) front: Front,

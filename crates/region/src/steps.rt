@@ -8,7 +8,7 @@ use super::width::{first_at, width_fault, width_of};
 use answer::Answer;
 
 // What one step gives: its result, and the place of the next step.
-#[derive(Drop)]
+#[derive(Clone, Copy)]
 pub struct Step {
     pub answer: Answer,
     pub place: usize,

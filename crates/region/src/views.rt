@@ -10,7 +10,7 @@ use answer::Answer;
 use cube::cube_len;
 
 // Where a cube lies: the number of the question, and the stretch, of length 0 where there is no such cube.
-#[derive(Drop)]
+#[derive(Clone, Copy)]
 pub struct Stretch {
     pub answer: Answer,
     pub start: usize,

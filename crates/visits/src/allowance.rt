@@ -3,7 +3,7 @@ ghost use Rattle.std.specs.Prelude.{◌≡◌, ◌+◌, ◌^◌, ◌<◌};
 ghost use Rattle.visits.specs.Settle.{after};
 
 // How many pieces may still be visited, and how many were.
-#[derive(Drop)]
+#[derive(Clone, Copy)]
 pub struct Allowance {
     pub left: u32,
     pub spent: u32,
@@ -22,7 +22,7 @@ impl Allowance {
 }
 
 // How a visit ends: its piece is covered, a piece survives, or a piece could not be paid for.
-#[derive(Drop)]
+#[derive(Clone, Copy)]
 pub enum Verdict {
     Covered,
     Survives,
@@ -30,7 +30,7 @@ pub enum Verdict {
 }
 
 // What a visit gives back. The piece is the one that survives, where one does.
-#[derive(Drop)]
+#[derive(Clone, Copy)]
 pub struct Outcome {
     pub allowance: Allowance,
     pub verdict: Verdict,

@@ -7,7 +7,7 @@ ghost use Rattle.visits.specs.Replies.{tells, survives, Pays};
 use super::allowance::{Allowance, Verdict};
 
 // The piece is the one that survives, where one does.
-#[derive(Drop)]
+#[derive(Clone, Copy)]
 pub(crate) struct Reply {
     pub(crate) allowance: Allowance,
     pub(crate) verdict: Verdict,

@@ -14,7 +14,7 @@ use super::opening::next_open;
 use cube::{code_at, meets};
 
 // Where the next cut that meets a piece stands, and how many are left from there on.
-#[derive(Drop)]
+#[derive(Clone, Copy)]
 struct Next {
     at: usize,
     left: usize,

@@ -6,7 +6,7 @@ use cube::WIDEST_CUBE;
 use visits::{Allowance, Outcome, Verdict};
 
 // The outcome, and how many walks were covered before the one that decided; where all are covered, how many there are.
-#[derive(Drop)]
+#[derive(Clone, Copy)]
 pub(crate) struct Stop {
     pub(crate) outcome: Outcome,
     pub(crate) index: u16,

@@ -12,7 +12,7 @@ use cube::{WIDEST_CUBE, free_places, meet_into, meets};
 
 // Of the cuts counted: the first bound, capped; how many meet the base; and the AND of those that do, in which a position is free where none of
 // them fixes it.
-#[derive(Drop)]
+#[derive(Clone, Copy)]
 pub(crate) struct Tally {
     pub(crate) nested: u32,
     pub(crate) met: u64,

@@ -1,0 +1,7 @@
+-- `region::asking::Asked::refused` meets its contract.
+use mathlib.Core.Path.{refl}
+use borrow.Author.Rules.{rules}
+use Rattle.region.proofs.asking.Asked.refused.Goals as goal
+
+pub returns : goal.returns
+returns c = rw c.refused.ensures refl

@@ -1,0 +1,10 @@
+-- `region::width::first_at` meets its contract.
+use Prim.Native.Nat.{ℕ, ◌+◌}
+use mathlib.Core.Path.{ap}
+use borrow.Author.Rules.{rules}
+use Rattle.format.specs.Records.{first_at}
+use Rattle.region.proofs.width.first_at.Goals as goal
+
+pub returns : goal.returns
+unfolding first_at
+returns c = ap (λ (n : ℕ). 2 + n) c.u16_at.ensures.0
