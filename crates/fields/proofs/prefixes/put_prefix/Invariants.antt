@@ -1,0 +1,19 @@
+-- `fields::prefixes::put_prefix` meets its contract: each position passed is fixed to its bit.
+use Prim.Native.Nat.{◌+◌, ◌-◌, ◌*◌, ◌/◌, ◌%◌, ◌^◌, ◌≤◌, ◌<◌}
+use native.Mathlib.Omega.{arith}
+use mathlib.Core.Path.{◌≡◌, refl, sym, ap, ◌∙◌}
+use lib.ListN.{length, get_or, set}
+use borrow.Author.Rules.{rules}
+use Rattle.model.specs.Cube.{Code}
+use Rattle.model.specs.Fields.{bit_code, prefix_cube}
+use Rattle.format.specs.Bytes.{bits, codes}
+use Rattle.format.proofs.Heading.{length-bits, bit_at}
+use Rattle.format.proofs.Coding.{codes-free}
+use Rattle.fields.proofs.Fielding.{prefix-none, prefix-more, bit-code}
+use Rattle.fields.proofs.prefixes.put_prefix.Given as goal
+
+abbrev pub invariant-loop-i : goal.invariant-loop-i
+invariant-loop-i l = (l.i ≤ l.m) × (length l.c ≡ length l.initial.c) × (codes l.c ≡ prefix_cube (4 * length l.initial.c) l.s l.i (bits l.value))
+
+abbrev pub decreases-loop-i : goal.decreases-loop-i
+decreases-loop-i l = l.m - l.i

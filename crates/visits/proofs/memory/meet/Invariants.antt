@@ -1,0 +1,16 @@
+-- `visits::memory::meet` meets its contract. The loop's invariant: the first w words are met, the others as they were.
+use Rattle.visits.proofs.Slots.{met-turn}
+use lib.Bits.{bit_and}
+use lib.ListN.{get_or}
+use mathlib.Core.Path.{◌≡◌, refl}
+use native.Mathlib.Omega.{arith}
+use Prim.Native.Nat.{ℕ, ◌-◌, ◌≤◌, ◌<◌}
+use borrow.Author.Rules.{rules}
+use Rattle.visits.proofs.memory.meet.Given as goal
+
+abbrev pub invariant-loop-w : goal.invariant-loop-w
+invariant-loop-w l =
+    (l.w ≤ 10) × ((v : ℕ) → v < l.w → get_or l.a v 0 ≡ bit_and (get_or l.initial.a v 0) (get_or l.b v 0)) × ((v : ℕ) → l.w ≤ v → get_or l.a v 0 ≡ get_or l.initial.a v 0)
+
+abbrev pub decreases-loop-w : goal.decreases-loop-w
+decreases-loop-w l = 10 - l.w

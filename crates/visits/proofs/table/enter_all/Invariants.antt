@@ -1,0 +1,18 @@
+-- `visits::table::enter_all` meets its contract. The loop's invariant: the cuts of the first m rows are entered.
+use Rattle.visits.proofs.Entering.{EnteredAll, entered-none, entered-more}
+use Rattle.visits.proofs.Meeting.{pow-double}
+use Rattle.visits.specs.Alive.{Against}
+use Rattle.visits.specs.Words.{row_cube}
+use lib.Pow.{pow_mono}
+use lib.ListN.{length}
+use mathlib.Core.Path.{◌≡◌, subst}
+use native.Mathlib.Omega.{arith}
+use Prim.Native.Nat.{suc, ◌-◌, ◌≤◌}
+use borrow.Author.Rules.{rules}
+use Rattle.visits.proofs.table.enter_all.Given as goal
+
+abbrev pub invariant-loop-m : goal.invariant-loop-m
+invariant-loop-m l = (l.m ≤ l.n) × (l.n ≤ 64) × (l.n ≤ length l.cuts) × (length l.initial.against ≡ 640) × EnteredAll l.cuts l.m l.against
+
+abbrev pub decreases-loop-m : goal.decreases-loop-m
+decreases-loop-m l = l.n - l.m
