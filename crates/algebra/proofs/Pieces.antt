@@ -27,7 +27,7 @@ use Rattle.algebra.specs.Stops.{bases_of, pieces_of, MadeOf}
 use Rattle.algebra.specs.declared.tidying.Made.{Made}
 use Rattle.algebra.specs.declared.tidying.Made.TheVariants.{Omitted, Kept}
 use Rattle.algebra.specs.declared.stop.Stop.{Stop}
-use Rattle.cube.proofs.Laying.{put-fits, put_front, back-laid}
+use Rattle.cube.proofs.Laying.{put-fits, put-front, back-laid}
 use Rattle.algebra.proofs.Taking.{kept-most}
 
 -- the base of the piece of the difference with the front f and the stop p, put into a buffer that held old
@@ -96,7 +96,7 @@ module _ (q : ℕ) (s : List ℕ) (f : Front) (t : List ℕ) (p : Stop) (base : 
         → MadeOf q s f t p new (Kept i)
     unfolding held onward whole_at cube_of tidy_from
     piece-kept i e2 h k new room is-put =
-        let b : take q (drop 0 new) ≡ base = rw is-put (put_front back base q l room) in
+        let b : take q (drop 0 new) ≡ base = rw is-put (put-front back base q l room) in
         let c : wholes_at q new q i ≡ wholes_at (length base) back (length base) i =
         wholes-back q new back q i (rw (is-put, put-fits back 0 base (omega arith)) (back-laid back base 0 (omega arith) q (omega arith))) ∙ rw l in
         let d = kept-most m j n e first.few in

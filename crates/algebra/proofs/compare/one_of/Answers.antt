@@ -11,6 +11,10 @@ use Rattle.algebra.proofs.compare.one_of.Goals as goal
 pub loop-left-init : goal.loop-left-init
 loop-left-init c = (c.requires.1, refl)
 
+pub slice_bounds-equal-end-in-loop-left : goal.slice_bounds-equal-end-in-loop-left
+slice_bounds-equal-end-in-loop-left c =
+    omega (arith, row_room c.loop-left.left c.args.q c.loop-left-test.true)
+
 pub returns-then-equal : goal.returns-then-equal
 returns-then-equal c =
     let p = c.args in

@@ -55,7 +55,7 @@ returns-in_default c =
     (omega (arith, c.put_base.auto.base, c.requires.0)) in
     let x = c.args in
     piece-omitted x.q x.s.now x.front x.t.now x.stop (base c) base-length (base-is c c.if-not-put_base.false)
-    x.buf.now _ _ _ c.take_cuts.ensures c.enum_told-1.given.1
+    x.buf.now _ _ _ c.take_cuts.ensures c.enum_told.given.1
 
 pub take_cuts-requires-2 : goal.take_cuts-requires-2
 take_cuts-requires-2 c =
@@ -74,7 +74,11 @@ returns-in_default-take_cuts c =
     (omega (arith, c.put_base.auto.base, c.requires.0)) in
     let x = c.args in
     piece-covered x.q x.s.now x.front x.t.now x.stop (base c) base-length (base-is c c.if-not-put_base.false)
-    x.buf.now _ _ _ c.take_cuts.ensures _ c.some-1.given.1 _ _ c.take_cuts-2.ensures c.enum_told-in_default-take_cuts-1.given.1
+    x.buf.now _ _ _ c.take_cuts.ensures _ c.some-1.given.1 _ _ c.take_cuts-2.ensures c.enum-told2.given.1
+
+pub slice_bounds-put-end : goal.slice_bounds-put-end
+slice_bounds-put-end c =
+    omega (arith, c.put_base.auto.base, c.requires.0)
 
 pub returns : goal.returns
 returns c =

@@ -20,6 +20,12 @@ overflow_add-cube c =
     let there : let x = c.args in x.stop.cube + x.q ≤ length x.t.now = c.requires.2 met in
     omega (arith, there)
 
+pub slice_bounds-meets-end-2 : goal.slice_bounds-meets-end-2
+slice_bounds-meets-end-2 c =
+    let met : c.args.stop.meets ≡ true = c.if-not-stop.false in
+    let there : let x = c.args in x.stop.cube + x.q ≤ length x.t.now = c.requires.2 met in
+    omega (arith, there)
+
 pub returns-then-not-meets : goal.returns-then-not-meets
 returns-then-not-meets c =
     let met : c.args.stop.meets ≡ true = c.if-not-stop.false in
@@ -30,6 +36,12 @@ returns-then-not-meets c =
 
 pub overflow_add-cube-2 : goal.overflow_add-cube-2
 overflow_add-cube-2 c =
+    let met : c.args.stop.meets ≡ true = c.if-not-stop.false in
+    let there : let x = c.args in x.stop.cube + x.q ≤ length x.t.now = c.requires.2 met in
+    omega (arith, there)
+
+pub slice_bounds-meet_into-end-2 : goal.slice_bounds-meet_into-end-2
+slice_bounds-meet_into-end-2 c =
     let met : c.args.stop.meets ≡ true = c.if-not-stop.false in
     let there : let x = c.args in x.stop.cube + x.q ≤ length x.t.now = c.requires.2 met in
     omega (arith, there)

@@ -18,27 +18,27 @@ run-sum-requires c = rw c.cube_len-q.ensures c.requires.1
 
 pub returns-then-sum : goal.returns-then-sum
 returns-then-sum c =
-    let whole : Region = total c.operation (cube_len c.w) c.s.now c.a c.t.now c.x in
+    let whole : Region = let p = c.args in total p.operation (cube_len p.w) p.s.now p.a p.t.now p.x in
     let rest : List ℕ = c.run-sum.new.out in
-    let counted : Counted (cube_len c) whole (take 0 c) rest c.run-sum.result = rw c.cube_len-q.ensures at c.run-sum.ensures in
-    let same : rest ++ c ≡ c = nothing-back rest c c.run-sum.auto.out in
+    let counted : Counted (cube_len c.args.w) whole (take 0 c.args.out.now) rest c.run-sum.result = rw c.cube_len-q.ensures at c.run-sum.ensures in
+    let same : rest ++ c.args.out.now ≡ c.args.out.now = nothing-back rest c.args.out.now c.run-sum.auto.out in
     rw (← result-long c.args.w _ counted c.if-sum.true) (record { answer = c.refused.ensures; buffer = same })
 
 pub returns-then-sum-gt-MOST_DIFFERENCES : goal.returns-then-sum-gt-MOST_DIFFERENCES
 returns-then-sum-gt-MOST_DIFFERENCES c =
-    let whole : Region = total c.operation (cube_len c.w) c.s.now c.a c.t.now c.x in
+    let whole : Region = let p = c.args in total p.operation (cube_len p.w) p.s.now p.a p.t.now p.x in
     let rest : List ℕ = c.run-sum.new.out in
-    let counted : Counted (cube_len c) whole (take 0 c) rest c.run-sum.result = rw c.cube_len-q.ensures at c.run-sum.ensures in
-    let same : rest ++ c ≡ c = nothing-back rest c c.run-sum.auto.out in
+    let counted : Counted (cube_len c.args.w) whole (take 0 c.args.out.now) rest c.run-sum.result = rw c.cube_len-q.ensures at c.run-sum.ensures in
+    let same : rest ++ c.args.out.now ≡ c.args.out.now = nothing-back rest c.args.out.now c.run-sum.auto.out in
     rw (← result-many c.args.w _ counted c.if-sum.false c.if-sum-gt-MOST_DIFFERENCES.true)
     (record { answer = c.refused-then-sum-gt-MOST_DIFFERENCES.ensures; buffer = same })
 
 pub returns-then-out-size : goal.returns-then-out-size
 returns-then-out-size c =
-    let whole : Region = total c.operation (cube_len c.w) c.s.now c.a c.t.now c.x in
+    let whole : Region = let p = c.args in total p.operation (cube_len p.w) p.s.now p.a p.t.now p.x in
     let rest : List ℕ = c.run-sum.new.out in
-    let counted : Counted (cube_len c) whole (take 0 c) rest c.run-sum.result = rw c.cube_len-q.ensures at c.run-sum.ensures in
-    let same : rest ++ c ≡ c = nothing-back rest c c.run-sum.auto.out in
+    let counted : Counted (cube_len c.args.w) whole (take 0 c.args.out.now) rest c.run-sum.result = rw c.cube_len-q.ensures at c.run-sum.ensures in
+    let same : rest ++ c.args.out.now ≡ c.args.out.now = nothing-back rest c.args.out.now c.run-sum.auto.out in
     let short = rw same at c.if-out-size.true in
     rw (← result-short c.args.w _ counted c.if-sum.false c.if-sum-gt-MOST_DIFFERENCES.false short) (record { answer = c.refused-then-out-size.ensures; buffer = same })
 
@@ -48,10 +48,10 @@ run-requires c =
 
 pub returns : goal.returns
 returns c =
-    let whole : Region = total c.operation (cube_len c.w) c.s.now c.a c.t.now c.x in
+    let whole : Region = let p = c.args in total p.operation (cube_len p.w) p.s.now p.a p.t.now p.x in
     let rest : List ℕ = c.run-sum.new.out in
-    let counted : Counted (cube_len c) whole (take 0 c) rest c.run-sum.result = rw c.cube_len-q.ensures at c.run-sum.ensures in
-    let same : rest ++ c ≡ c = nothing-back rest c c.run-sum.auto.out in
+    let counted : Counted (cube_len c.args.w) whole (take 0 c.args.out.now) rest c.run-sum.result = rw c.cube_len-q.ensures at c.run-sum.ensures in
+    let same : rest ++ c.args.out.now ≡ c.args.out.now = nothing-back rest c.args.out.now c.run-sum.auto.out in
     let p = c.args in
     let out = p.out.now in
     let fits = rw same at c.if-out-size.false in

@@ -46,28 +46,30 @@ make-made-requires c =
 pub returns-then-sum : goal.returns-then-sum
 unfolding made
 returns-then-sum c =
-    let done : Region = c in
-    let here : Region = made c.operation c.q c.s.now c.t.now (front_at c.s.now c) c in
+    let done : Region = c.loop-at.invariant.done in
+    let here : Region = let p = c.args in made p.operation p.q p.s.now p.t.now (front_at p.s.now c.loop-at.at) c.loop-at.y in
     let stop : Stop = c.stop_at-stop.result in
-    let stop_is : stop ≡ stop_at c c c c = c.stop_at-stop.ensures in
-    let made-is : held c c.make-made.new.buf c.make-made.result ≡ here =
+    let stop_is : stop ≡ stop_at c.args.operation c.args.q c.args.t.now c.loop-at.y = c.stop_at-stop.ensures in
+    let made-is : held c.args.q c.make-made.new.buf c.make-made.result ≡ here =
+    let p = c.args in
     c.make-made.ensures.tidied
-    ∙ ap₂ (λ (f : Front) (x : Stop). tidy_region (pieces_of c.q c.s.now f c.t.now x)) c stop_is in
-    let counted : Counted c (done ++ here) c c.add-sum.new.out c.add-sum.result = rw made-is at (c.add-sum.ensures done c c) in
-    let gone : total c.operation c.q c.s.now c.a c.t.now c.x ≡ (done ++ here) ++ left c.operation c.q c.s.now c.t.now c.x c stop c.next =
-    let l = left-stop c.operation c.q c.s.now c.t.now c.x c c c
-    c c in
-    c
+    ∙ ap₂ (λ (f : Front) (x : Stop). tidy_region (pieces_of p.q p.s.now f p.t.now x)) c.loop-at.invariant.front stop_is in
+    let counted : Counted c.args.q (done ++ here) c.args.out.now c.add-sum.new.out c.add-sum.result = rw made-is at (c.add-sum.ensures done c.args.out.now c.loop-at.invariant.counted) in
+    let gone : let p = c.args in total p.operation p.q p.s.now p.a p.t.now p.x ≡ (done ++ here) ++ left p.operation p.q p.s.now p.t.now p.x c.loop-at.at stop.next =
+    let p = c.args in
+    let l = left-stop p.operation p.q p.s.now p.t.now p.x c.requires.some c.loop-at.at c.loop-at.y
+    c.loop-at-test.true c.if-y-t.true in
+    c.loop-at.invariant.made
     ∙ ap (λ (r : Region). done ++ r) l
     ∙ sym (append_assoc done here _)
-    ∙ ap (λ (x : Stop). (done ++ here) ++ left c.operation c.q c.s.now c.t.now c.x c x.next) (sym stop_is) in
+    ∙ ap (λ (x : Stop). (done ++ here) ++ left p.operation p.q p.s.now p.t.now p.x c.loop-at.at x.next) (sym stop_is) in
     let p = c.args in
     rw gone (count-over p.q (done ++ here) _ p.out.now _ c.add-sum.result counted c.if-sum.true)
 
 pub loop-at-smaller-else-sum : goal.loop-at-smaller-else-sum
 loop-at-smaller-else-sum c =
     let stop : Stop = c.stop_at-stop.result in
-    let stop_is : stop ≡ stop_at c c c c = c.stop_at-stop.ensures in
+    let stop_is : stop ≡ stop_at c.args.operation c.args.q c.args.t.now c.loop-at.y = c.stop_at-stop.ensures in
     let p = c.args in
     let on = stop-on p.operation p.q p.t.now c.requires.some c.loop-at.y c.if-y-t.true in
     omega (arith, on, ap (λ z. z.next) stop_is, c.if-y-t.true)
@@ -76,20 +78,22 @@ pub loop-at-preserved-else-sum : goal.loop-at-preserved-else-sum
 unfolding made
 loop-at-preserved-else-sum c =
     let stop : Stop = c.stop_at-stop.result in
-    let stop_is : stop ≡ stop_at c c c c = c.stop_at-stop.ensures in
-    let done : Region = c in
-    let here : Region = made c.operation c.q c.s.now c.t.now (front_at c.s.now c) c in
-    let made-is : held c c.make-made.new.buf c.make-made.result ≡ here =
+    let stop_is : stop ≡ stop_at c.args.operation c.args.q c.args.t.now c.loop-at.y = c.stop_at-stop.ensures in
+    let done : Region = c.loop-at.invariant.done in
+    let here : Region = let p = c.args in made p.operation p.q p.s.now p.t.now (front_at p.s.now c.loop-at.at) c.loop-at.y in
+    let made-is : held c.args.q c.make-made.new.buf c.make-made.result ≡ here =
+    let p = c.args in
     c.make-made.ensures.tidied
-    ∙ ap₂ (λ (f : Front) (x : Stop). tidy_region (pieces_of c.q c.s.now f c.t.now x)) c stop_is in
-    let counted : Counted c (done ++ here) c c.add-sum.new.out c.add-sum.result = rw made-is at (c.add-sum.ensures done c c) in
-    let gone : total c.operation c.q c.s.now c.a c.t.now c.x ≡ (done ++ here) ++ left c.operation c.q c.s.now c.t.now c.x c stop c.next =
-    let l = left-stop c.operation c.q c.s.now c.t.now c.x c c c
-    c c in
-    c
+    ∙ ap₂ (λ (f : Front) (x : Stop). tidy_region (pieces_of p.q p.s.now f p.t.now x)) c.loop-at.invariant.front stop_is in
+    let counted : Counted c.args.q (done ++ here) c.args.out.now c.add-sum.new.out c.add-sum.result = rw made-is at (c.add-sum.ensures done c.args.out.now c.loop-at.invariant.counted) in
+    let gone : let p = c.args in total p.operation p.q p.s.now p.a p.t.now p.x ≡ (done ++ here) ++ left p.operation p.q p.s.now p.t.now p.x c.loop-at.at stop.next =
+    let p = c.args in
+    let l = left-stop p.operation p.q p.s.now p.t.now p.x c.requires.some c.loop-at.at c.loop-at.y
+    c.loop-at-test.true c.if-y-t.true in
+    c.loop-at.invariant.made
     ∙ ap (λ (r : Region). done ++ r) l
     ∙ sym (append_assoc done here _)
-    ∙ ap (λ (x : Stop). (done ++ here) ++ left c.operation c.q c.s.now c.t.now c.x c x.next) (sym stop_is) in
+    ∙ ap (λ (x : Stop). (done ++ here) ++ left p.operation p.q p.s.now p.t.now p.x c.loop-at.at x.next) (sym stop_is) in
     let v = c.loop-at.invariant in
     let p = c.args in
     let on = (stops-turn p.operation p.q p.t.now c.loop-at.y c.requires.some c.if-y-t.true v.stands).1 in

@@ -18,9 +18,6 @@ use Rattle.algebra.proofs.Taking.{slot, cut_apart, cut-covered, cut_again, cut-m
 use Rattle.algebra.proofs.Meeting.{met-back}
 use Rattle.algebra.proofs.tidying.take_cut.Goals as goal
 
-abbrev start : tie.After-meet-into → tie.Start
-start c = c.before.before.before.before.before.before.before.before.before
-
 -- what the buffer holds once the cut is met with the base
 abbrev held : tie.After-meet-into → List ℕ
 held c =
@@ -36,44 +33,38 @@ returns-then-not-meets c =
 
 pub returns-then-equal : goal.returns-then-equal
 returns-then-equal c =
-    let put : let p = (start c).args in held c ≡ laid p.buf.now (slot p.base.now p.kept) (and_bytes p.base.now (take (length p.base.now) (drop p.at p.s.now))) =
-    let z = start c in
-    let p = z.args in
-    met-back p.base.now p.s.now p.at z.requires.0 p.buf.now c.meet_into.new.out _ _ (omega (arith, z.requires.2)) refl c.meet_into.ensures in
-    let meets-so : let p = (start c).args in true ≡ shares (codes p.base.now) (whole_at (length p.base.now) p.s.now p.at) =
-    let p = (start c).args in
+    let put : let p = c.args in held c ≡ laid p.buf.now (slot p.base.now p.kept) (and_bytes p.base.now (take (length p.base.now) (drop p.at p.s.now))) =
+    let p = c.args in
+    met-back p.base.now p.s.now p.at c.requires.0 p.buf.now c.meet_into.new.out _ _ (omega (arith, c.requires.2)) refl c.meet_into.ensures in
+    let meets-so : let p = c.args in true ≡ shares (codes p.base.now) (whole_at (length p.base.now) p.s.now p.at) =
+    let p = c.args in
     rw (whole_part (length p.base.now) p.s.now p.at) at (sym c.if-not-meets.false ∙ c.meets.ensures) in
-    let z = start c in
-    let p = z.args in
-    cut-covered p.base.now p.s.now p.buf.now p.at p.kept z.requires.0 z.requires.2 meets-so (held c) put
+    let p = c.args in
+    cut-covered p.base.now p.s.now p.buf.now p.at p.kept c.requires.0 c.requires.2 meets-so (held c) put
     (rw (whole_part (length p.base.now) (held c) (slot p.base.now p.kept)) at (sym c.if-equal.true ∙ c.equal.ensures))
 
 pub returns-then-one_of : goal.returns-then-one_of
 returns-then-one_of c =
-    let put : let p = (start c).args in held c ≡ laid p.buf.now (slot p.base.now p.kept) (and_bytes p.base.now (take (length p.base.now) (drop p.at p.s.now))) =
-    let z = start c in
-    let p = z.args in
-    met-back p.base.now p.s.now p.at z.requires.0 p.buf.now c.meet_into.new.out _ _ (omega (arith, z.requires.2)) refl c.meet_into.ensures in
-    let meets-so : let p = (start c).args in true ≡ shares (codes p.base.now) (whole_at (length p.base.now) p.s.now p.at) =
-    let p = (start c).args in
+    let put : let p = c.args in held c ≡ laid p.buf.now (slot p.base.now p.kept) (and_bytes p.base.now (take (length p.base.now) (drop p.at p.s.now))) =
+    let p = c.args in
+    met-back p.base.now p.s.now p.at c.requires.0 p.buf.now c.meet_into.new.out _ _ (omega (arith, c.requires.2)) refl c.meet_into.ensures in
+    let meets-so : let p = c.args in true ≡ shares (codes p.base.now) (whole_at (length p.base.now) p.s.now p.at) =
+    let p = c.args in
     rw (whole_part (length p.base.now) p.s.now p.at) at (sym c.if-not-meets.false ∙ c.meets.ensures) in
-    let z = start c in
-    let p = z.args in
-    cut_again p.base.now p.s.now p.buf.now p.at p.kept z.requires.0 z.requires.2 meets-so (held c) put
+    let p = c.args in
+    cut_again p.base.now p.s.now p.buf.now p.at p.kept c.requires.0 c.requires.2 meets-so (held c) put
     (rw (whole_part (length p.base.now) (held c) (slot p.base.now p.kept)) at (sym c.if-equal.false ∙ c.equal.ensures))
     (sym c.if-one_of.true ∙ c.one_of.ensures)
 
 pub returns : goal.returns
 returns c =
-    let put : let p = (start c).args in held c ≡ laid p.buf.now (slot p.base.now p.kept) (and_bytes p.base.now (take (length p.base.now) (drop p.at p.s.now))) =
-    let z = start c in
-    let p = z.args in
-    met-back p.base.now p.s.now p.at z.requires.0 p.buf.now c.meet_into.new.out _ _ (omega (arith, z.requires.2)) refl c.meet_into.ensures in
-    let meets-so : let p = (start c).args in true ≡ shares (codes p.base.now) (whole_at (length p.base.now) p.s.now p.at) =
-    let p = (start c).args in
+    let put : let p = c.args in held c ≡ laid p.buf.now (slot p.base.now p.kept) (and_bytes p.base.now (take (length p.base.now) (drop p.at p.s.now))) =
+    let p = c.args in
+    met-back p.base.now p.s.now p.at c.requires.0 p.buf.now c.meet_into.new.out _ _ (omega (arith, c.requires.2)) refl c.meet_into.ensures in
+    let meets-so : let p = c.args in true ≡ shares (codes p.base.now) (whole_at (length p.base.now) p.s.now p.at) =
+    let p = c.args in
     rw (whole_part (length p.base.now) p.s.now p.at) at (sym c.if-not-meets.false ∙ c.meets.ensures) in
-    let z = start c in
-    let p = z.args in
-    cut-more p.base.now p.s.now p.buf.now p.at p.kept z.requires.0 z.requires.2 meets-so (held c) put
+    let p = c.args in
+    cut-more p.base.now p.s.now p.buf.now p.at p.kept c.requires.0 c.requires.2 meets-so (held c) put
     (rw (whole_part (length p.base.now) (held c) (slot p.base.now p.kept)) at (sym c.if-equal.false ∙ c.equal.ensures))
     (sym c.if-one_of.false ∙ c.one_of.ensures)

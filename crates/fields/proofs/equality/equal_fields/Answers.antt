@@ -40,13 +40,16 @@ pub returns-then-out-size : goal.returns-then-out-size
 unfolding equal_fields
 returns-then-out-size c =
     let second : let x = c.args in FieldIn x.w x.q x.n = field-stands _ _ _ _ c.field_refusal-second.ensures c.if-second-ne0.false in
-    let size : length (difference_bytes c.w (fields_equal c.w c.p c.q c.n)) ≡ c.record_len-size.result =
-    equal-size c.w c.p c.q c.n (omega (arith, c, c)) (omega (arith, second))
-    ∙ sym (rw (c.cube_len.ensures, c) at c.record_len-size.ensures) in
+    let size : let x = c.args in length (difference_bytes x.w (fields_equal x.w x.p x.q x.n)) ≡ c.record_len-size.result =
+    let x = c.args in
+    let n = c.pairs_of-some.ensures in
+    equal-size x.w x.p x.q x.n (omega (arith, n, c.if-some-gt-MOST_PAIRS.false)) (omega (arith, second))
+    ∙ sym (rw (c.cube_len.ensures, n) at c.record_len-size.ensures) in
     let first : let x = c.args in FieldIn x.w x.p x.n = field-stands _ _ _ _ c.field_refusal-first.ensures c.if-first-ne0.false in
-    let goes_on : outcome (writing (difference_bytes c.w (fields_equal c.w c.p c.q c.n)) (length c.out-1.now)) ≡ equal_fields c.w c.p c.q c.n (length c.out-1.now) =
-    let cuts = equal-cuts c.w c.p c.q c.n in
-    skipped 6 _ (omega (arith, first, second, cuts, c, c)) in
+    let goes_on : let x = c.args in outcome (writing (difference_bytes x.w (fields_equal x.w x.p x.q x.n)) (length x.out.now)) ≡ equal_fields x.w x.p x.q x.n (length x.out.now) =
+    let x = c.args in
+    let cuts = equal-cuts x.w x.p x.q x.n in
+    skipped 6 _ (omega (arith, first, second, cuts, c.pairs_of-some.ensures, c.if-some-gt-MOST_PAIRS.false)) in
     record { answer = silent-answer c.refused-then-out-size.ensures (reached 0 _ (rw size c.if-out-size.true) ∙ goes_on); bytes = silent-bytes (reached 0 _ (rw size c.if-out-size.true) ∙ goes_on) }
 
 pub put_equality-requires : goal.put_equality-requires
@@ -67,13 +70,16 @@ pub returns : goal.returns
 unfolding equal_fields
 returns c =
     let second : let x = c.args in FieldIn x.w x.q x.n = field-stands _ _ _ _ c.field_refusal-second.ensures c.if-second-ne0.false in
-    let size : length (difference_bytes c.w (fields_equal c.w c.p c.q c.n)) ≡ c.record_len-size.result =
-    equal-size c.w c.p c.q c.n (omega (arith, c, c)) (omega (arith, second))
-    ∙ sym (rw (c.cube_len.ensures, c) at c.record_len-size.ensures) in
+    let size : let x = c.args in length (difference_bytes x.w (fields_equal x.w x.p x.q x.n)) ≡ c.record_len-size.result =
+    let x = c.args in
+    let n = c.pairs_of-some.ensures in
+    equal-size x.w x.p x.q x.n (omega (arith, n, c.if-some-gt-MOST_PAIRS.false)) (omega (arith, second))
+    ∙ sym (rw (c.cube_len.ensures, n) at c.record_len-size.ensures) in
     let first : let x = c.args in FieldIn x.w x.p x.n = field-stands _ _ _ _ c.field_refusal-first.ensures c.if-first-ne0.false in
-    let goes_on : outcome (writing (difference_bytes c.w (fields_equal c.w c.p c.q c.n)) (length c.out-1.now)) ≡ equal_fields c.w c.p c.q c.n (length c.out-1.now) =
-    let cuts = equal-cuts c.w c.p c.q c.n in
-    skipped 6 _ (omega (arith, first, second, cuts, c, c)) in
+    let goes_on : let x = c.args in outcome (writing (difference_bytes x.w (fields_equal x.w x.p x.q x.n)) (length x.out.now)) ≡ equal_fields x.w x.p x.q x.n (length x.out.now) =
+    let x = c.args in
+    let cuts = equal-cuts x.w x.p x.q x.n in
+    skipped 6 _ (omega (arith, first, second, cuts, c.pairs_of-some.ensures, c.if-some-gt-MOST_PAIRS.false)) in
     let x = c.args in
     let old = x.out.now in
     record {

@@ -33,7 +33,7 @@ overflow_add-o c =
     let room : c.loop-i.o + 2 * c.cube_len-size.result ≤ length c.args.out.now =
     let more = cuts-room c.loop-i.i c.args.n (cube_len c.args.w) (length c.args.out.now) c.loop-i-test.true c.requires.4 in
     omega (arith, more, c.loop-i.invariant.1, c.cube_len-size.ensures) in
-    omega (arith, room, c.well-formed)
+    omega (arith, room, c.well_formed)
 
 pub put_cut-requires-in-loop-i : goal.put_cut-requires-in-loop-i
 put_cut-requires-in-loop-i c =
@@ -51,7 +51,7 @@ overflow_add-o-in-loop-i c =
     let room : c.loop-i.o + 2 * c.cube_len-size.result ≤ length c.args.out.now =
     let more = cuts-room c.loop-i.i c.args.n (cube_len c.args.w) (length c.args.out.now) c.loop-i-test.true c.requires.4 in
     omega (arith, more, c.loop-i.invariant.1, c.cube_len-size.ensures) in
-    omega (arith, room, c.well-formed)
+    omega (arith, room, c.well_formed)
 
 pub loop-i-preserved : goal.loop-i-preserved
 loop-i-preserved c =

@@ -17,33 +17,57 @@ use Rattle.region.proofs.Writing.{front_length, record-len, front-put}
 use Rattle.fields.proofs.Fielding.{free_bytes, cuts-length}
 use Rattle.fields.proofs.equality.put_equality.Goals as goal
 
--- the state there, seen from where the base ends
-abbrev starts : tie.After-slice-known3 → tie.After-front-len
-starts c = c.before.before.before.before.before.before.before.before
-
 pub overflow_add-cuts : goal.overflow_add-cuts
 overflow_add-cuts c =
-    let few : 2 * c ≤ most_cuts = omega (arith, c) in
-    let short : cube_len c ≤ widest_cube = omega (arith, c) in
-    let room : c.front_len-base.result + (2 * c + 1) * c.cube_len-size.result ≤ length c =
-    let whole = rw (record-len (2 * c) (cube_len c) few short) at c in
+    let few : 2 * c.args.n ≤ most_cuts = omega (arith, c.requires.3) in
+    let short : cube_len c.args.w ≤ widest_cube = omega (arith, c.requires.2) in
+    let room : c.front_len-base.result + (2 * c.args.n + 1) * c.cube_len-size.result ≤ length c.args.out.now =
+    let whole = rw (record-len (2 * c.args.n) (cube_len c.args.w) few short) at c.requires.4 in
     omega (arith, rw (← c.cube_len-size.ensures) at whole, c.front_len-base.ensures) in
-    omega (arith, room, c.well-formed)
+    omega (arith, room, c.well_formed)
+
+pub slice_bounds-fill-end : goal.slice_bounds-fill-end
+slice_bounds-fill-end c =
+    let few : 2 * c.args.n ≤ most_cuts = omega (arith, c.requires.3) in
+    let short : cube_len c.args.w ≤ widest_cube = omega (arith, c.requires.2) in
+    let room : c.front_len-base.result + (2 * c.args.n + 1) * c.cube_len-size.result ≤ length c.args.out.now =
+    let whole = rw (record-len (2 * c.args.n) (cube_len c.args.w) few short) at c.requires.4 in
+    omega (arith, rw (← c.cube_len-size.ensures) at whole, c.front_len-base.ensures) in
+    omega (arith, room, c.put_front.auto.out)
 
 pub slice_bounds-put_cuts-count : goal.slice_bounds-put_cuts-count
-slice_bounds-put_cuts-count c = omega (arith, room (starts c), c.put_front.auto.out)
+slice_bounds-put_cuts-count c =
+    let few : 2 * c.args.n ≤ most_cuts = omega (arith, c.requires.3) in
+    let short : cube_len c.args.w ≤ widest_cube = omega (arith, c.requires.2) in
+    let room : c.front_len-base.result + (2 * c.args.n + 1) * c.cube_len-size.result ≤ length c.args.out.now =
+    let whole = rw (record-len (2 * c.args.n) (cube_len c.args.w) few short) at c.requires.4 in
+    omega (arith, rw (← c.cube_len-size.ensures) at whole, c.front_len-base.ensures) in
+    omega (arith, room, c.put_front.auto.out)
+
+pub slice_bounds-put_cuts-start : goal.slice_bounds-put_cuts-start
+slice_bounds-put_cuts-start c =
+    let few : 2 * c.args.n ≤ most_cuts = omega (arith, c.requires.3) in
+    let short : cube_len c.args.w ≤ widest_cube = omega (arith, c.requires.2) in
+    let room : c.front_len-base.result + (2 * c.args.n + 1) * c.cube_len-size.result ≤ length c.args.out.now =
+    let whole = rw (record-len (2 * c.args.n) (cube_len c.args.w) few short) at c.requires.4 in
+    omega (arith, rw (← c.cube_len-size.ensures) at whole, c.front_len-base.ensures) in
+    omega (arith, room, c.put_front.auto.out)
 
 pub put_cuts-requires : goal.put_cuts-requires
 put_cuts-requires c =
-    let l = starts c in
-    (c.requires.0, c.requires.1, c.requires.2, c.requires.3, rw (← l.before.cube-len.ensures) (simp (length-take, length-drop) (omega (arith, room l))))
+    let few : 2 * c.args.n ≤ most_cuts = omega (arith, c.requires.3) in
+    let short : cube_len c.args.w ≤ widest_cube = omega (arith, c.requires.2) in
+    let room : c.front_len-base.result + (2 * c.args.n + 1) * c.cube_len-size.result ≤ length c.args.out.now =
+    let whole = rw (record-len (2 * c.args.n) (cube_len c.args.w) few short) at c.requires.4 in
+    omega (arith, rw (← c.cube_len-size.ensures) at whole, c.front_len-base.ensures) in
+    (c.requires.0, c.requires.1, c.requires.2, c.requires.3, rw (← c.cube_len-size.ensures) (simp (length-take, length-drop) (omega (arith, room))))
 
 pub returns : goal.returns
 returns c =
-    let few : 2 * c ≤ most_cuts = omega (arith, c) in
-    let short : cube_len c ≤ widest_cube = omega (arith, c) in
-    let room : c.front_len-base.result + (2 * c + 1) * c.cube_len-size.result ≤ length c =
-    let whole = rw (record-len (2 * c) (cube_len c) few short) at c in
+    let few : 2 * c.args.n ≤ most_cuts = omega (arith, c.requires.3) in
+    let short : cube_len c.args.w ≤ widest_cube = omega (arith, c.requires.2) in
+    let room : c.front_len-base.result + (2 * c.args.n + 1) * c.cube_len-size.result ≤ length c.args.out.now =
+    let whole = rw (record-len (2 * c.args.n) (cube_len c.args.w) few short) at c.requires.4 in
     omega (arith, rw (← c.cube_len-size.ensures) at whole, c.front_len-base.ensures) in
     let x = c.args in
     let e = c.cube_len-size.ensures in

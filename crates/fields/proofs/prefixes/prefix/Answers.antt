@@ -18,10 +18,6 @@ use Rattle.fields.proofs.Fielding.{lent-bytes, prefix-bytes, prefix-size}
 use Rattle.fields.proofs.Bounding.{FieldIn, field-refused, field-stands}
 use Rattle.fields.proofs.prefixes.prefix.Goals as goal
 
--- what the tests of the field were made on
-abbrev lent : tie.Else1 → tie.Start
-lent c = c.before.before.before.before.before
-
 pub returns-then-refusal-ne0 : goal.returns-then-refusal-ne0
 unfolding prefix
 returns-then-refusal-ne0 c = record { answer = silent-answer refl (field-refused _ _ _ _ c.field_refusal-refusal.ensures _ c.if-refusal-ne0.true); bytes = silent-bytes (field-refused _ _ _ _ c.field_refusal-refusal.ensures _ c.if-refusal-ne0.true) }
@@ -29,14 +25,14 @@ returns-then-refusal-ne0 c = record { answer = silent-answer refl (field-refused
 pub returns-then-n-m : goal.returns-then-n-m
 unfolding prefix
 returns-then-n-m c =
-    let field : let x = (lent c).args in FieldIn x.w x.s x.n = field-stands _ _ _ _ c.field_refusal-refusal.ensures c.if-refusal-ne0.false in
+    let field : let x = c.args in FieldIn x.w x.s x.n = field-stands _ _ _ _ c.field_refusal-refusal.ensures c.if-refusal-ne0.false in
     record { answer = silent-answer c.refused.ensures (reached 4 _ (omega (arith, field))); bytes = silent-bytes (reached 4 _ (omega (arith, field))) }
 
 pub returns-then-wrong-ne0 : goal.returns-then-wrong-ne0
 unfolding prefix
 returns-then-wrong-ne0 c =
-    let field : let x = (lent c).args in FieldIn x.w x.s x.n = field-stands _ _ _ _ c.field_refusal-refusal.ensures c.if-refusal-ne0.false in
-    let x = (lent c).args in
+    let field : let x = c.args in FieldIn x.w x.s x.n = field-stands _ _ _ _ c.field_refusal-refusal.ensures c.if-refusal-ne0.false in
+    let x = c.args in
     record {
       answer = silent-answer refl (bits-refused x.n x.m x.value.now _ c.bits_refusal-wrong.ensures _ c.if-wrong-ne0.true
           ∙ skipped 5 _ (omega (arith, field, c.if-n-m.false)));
@@ -47,24 +43,27 @@ returns-then-wrong-ne0 c =
 pub returns-then-out-size : goal.returns-then-out-size
 unfolding prefix
 returns-then-out-size c =
-    let field : let x = (lent c).args in FieldIn x.w x.s x.n = field-stands _ _ _ _ c.field_refusal-refusal.ensures c.if-refusal-ne0.false in
-    let within : c.s + c.m ≤ c.w = omega (arith, field, c) in
-    let covered : c.m ≤ length (bits c.value.now) =
-    let value = bits-lent c.n c.m c.value.now _ c.bits_refusal-wrong.ensures c.if-wrong-ne0.false in
-    rw (length-bits c.value.now) (omega (arith, value.0, c)) in
-    let size : length (write_cube (prefix_cube c.w c.s c.m (bits c.value.now))) ≡ c.cube_len-size.result = prefix-size c.w c.s c.m (bits c.value.now) within covered ∙ sym c.cube_len-size.ensures in
-    let goes_on : outcome (writing (write_cube (prefix_cube c.w c.s c.m (bits c.value.now))) (length c.out-1.now)) ≡ prefix c.w c.s c.n c.m c.value.now (length c.out-1.now) =
-    bits-passed c.n c.m c.value.now _ c.bits_refusal-wrong.ensures _ c.if-wrong-ne0.false
-    ∙ skipped 5 _ (omega (arith, field, c)) in
+    let field : let x = c.args in FieldIn x.w x.s x.n = field-stands _ _ _ _ c.field_refusal-refusal.ensures c.if-refusal-ne0.false in
+    let within : let x = c.args in x.s + x.m ≤ x.w = omega (arith, field, c.if-n-m.false) in
+    let covered : let x = c.args in x.m ≤ length (bits x.value.now) =
+    let x = c.args in
+    let value = bits-lent x.n x.m x.value.now _ c.bits_refusal-wrong.ensures c.if-wrong-ne0.false in
+    rw (length-bits x.value.now) (omega (arith, value.0, c.if-n-m.false)) in
+    let size : let x = c.args in length (write_cube (prefix_cube x.w x.s x.m (bits x.value.now))) ≡ c.cube_len-size.result = let x = c.args in prefix-size x.w x.s x.m (bits x.value.now) within covered ∙ sym c.cube_len-size.ensures in
+    let goes_on : let x = c.args in outcome (writing (write_cube (prefix_cube x.w x.s x.m (bits x.value.now))) (length x.out.now)) ≡ prefix x.w x.s x.n x.m x.value.now (length x.out.now) =
+    let x = c.args in
+    bits-passed x.n x.m x.value.now _ c.bits_refusal-wrong.ensures _ c.if-wrong-ne0.false
+    ∙ skipped 5 _ (omega (arith, field, c.if-n-m.false)) in
     record { answer = silent-answer c.refused-then-out-size.ensures (reached 0 _ (rw size c.if-out-size.true) ∙ goes_on); bytes = silent-bytes (reached 0 _ (rw size c.if-out-size.true) ∙ goes_on) }
 
 pub put_prefix-requires : goal.put_prefix-requires
 put_prefix-requires c =
-    let field : let x = (lent c).args in FieldIn x.w x.s x.n = field-stands _ _ _ _ c.field_refusal-refusal.ensures c.if-refusal-ne0.false in
-    let within : c.s + c.m ≤ c.w = omega (arith, field, c) in
-    let covered : c.m ≤ length (bits c.value.now) =
-    let value = bits-lent c.n c.m c.value.now _ c.bits_refusal-wrong.ensures c.if-wrong-ne0.false in
-    rw (length-bits c.value.now) (omega (arith, value.0, c)) in
+    let field : let x = c.args in FieldIn x.w x.s x.n = field-stands _ _ _ _ c.field_refusal-refusal.ensures c.if-refusal-ne0.false in
+    let within : let x = c.args in x.s + x.m ≤ x.w = omega (arith, field, c.if-n-m.false) in
+    let covered : let x = c.args in x.m ≤ length (bits x.value.now) =
+    let x = c.args in
+    let value = bits-lent x.n x.m x.value.now _ c.bits_refusal-wrong.ensures c.if-wrong-ne0.false in
+    rw (length-bits x.value.now) (omega (arith, value.0, c.if-n-m.false)) in
     let x = c.args in
     let l : length (take (c.cube_len-size.result - 0) x.out.now) ≡ c.cube_len-size.result = simp length-take (omega (arith, c.if-out-size.false)) in (
       omega (arith, l, c.cube_len-size.ensures, within),
@@ -75,15 +74,17 @@ put_prefix-requires c =
 pub returns : goal.returns
 unfolding prefix
 returns c =
-    let field : let x = (lent c).args in FieldIn x.w x.s x.n = field-stands _ _ _ _ c.field_refusal-refusal.ensures c.if-refusal-ne0.false in
-    let within : c.s + c.m ≤ c.w = omega (arith, field, c) in
-    let covered : c.m ≤ length (bits c.value.now) =
-    let value = bits-lent c.n c.m c.value.now _ c.bits_refusal-wrong.ensures c.if-wrong-ne0.false in
-    rw (length-bits c.value.now) (omega (arith, value.0, c)) in
-    let size : length (write_cube (prefix_cube c.w c.s c.m (bits c.value.now))) ≡ c.cube_len-size.result = prefix-size c.w c.s c.m (bits c.value.now) within covered ∙ sym c.cube_len-size.ensures in
-    let goes_on : outcome (writing (write_cube (prefix_cube c.w c.s c.m (bits c.value.now))) (length c.out-1.now)) ≡ prefix c.w c.s c.n c.m c.value.now (length c.out-1.now) =
-    bits-passed c.n c.m c.value.now _ c.bits_refusal-wrong.ensures _ c.if-wrong-ne0.false
-    ∙ skipped 5 _ (omega (arith, field, c)) in
+    let field : let x = c.args in FieldIn x.w x.s x.n = field-stands _ _ _ _ c.field_refusal-refusal.ensures c.if-refusal-ne0.false in
+    let within : let x = c.args in x.s + x.m ≤ x.w = omega (arith, field, c.if-n-m.false) in
+    let covered : let x = c.args in x.m ≤ length (bits x.value.now) =
+    let x = c.args in
+    let value = bits-lent x.n x.m x.value.now _ c.bits_refusal-wrong.ensures c.if-wrong-ne0.false in
+    rw (length-bits x.value.now) (omega (arith, value.0, c.if-n-m.false)) in
+    let size : let x = c.args in length (write_cube (prefix_cube x.w x.s x.m (bits x.value.now))) ≡ c.cube_len-size.result = let x = c.args in prefix-size x.w x.s x.m (bits x.value.now) within covered ∙ sym c.cube_len-size.ensures in
+    let goes_on : let x = c.args in outcome (writing (write_cube (prefix_cube x.w x.s x.m (bits x.value.now))) (length x.out.now)) ≡ prefix x.w x.s x.n x.m x.value.now (length x.out.now) =
+    let x = c.args in
+    bits-passed x.n x.m x.value.now _ c.bits_refusal-wrong.ensures _ c.if-wrong-ne0.false
+    ∙ skipped 5 _ (omega (arith, field, c.if-n-m.false)) in
     let x = c.args in
     let n = c.cube_len-size.result - 0 in
     let ys = c.put_prefix.new.c in
