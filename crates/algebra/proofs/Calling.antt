@@ -1,6 +1,7 @@
 -- The calls that write regions, where no operand is refused.
 --   diff_intersect-stand, diff_less-stand, region_tidy-stand, region_intersect-stand, region_less-stand    the operands stand
 --   diff_intersect-told, diff_less-told, region_tidy-told, region_intersect-told, region_less-told    what each call tells
+--   region_tidy-runs, region_intersect-runs, region_less-runs    so where the width and the first record are known by other names
 --   file-fault, file-lent      a refused file is what the table of a call on it gives; on an accepted file the table goes on
 use Prim.Native.Nat.{ℕ, ◌≤◌}
 use mathlib.Core.Path.{◌≡◌, ap, ◌∙◌}
@@ -107,3 +108,24 @@ module _ {s : List ℕ} (f : File s) where
         whole-written (width_of s) _ _ room (less-shown (width_of s) f.width.some (file-runs f) single)
         ∙ record-passed (width_of s) t 2 r e _ z
         ∙ file-lent f 1 _
+
+-- the width and where the first records stand, as a call knows them
+pub region_tidy-runs : (s : List ℕ) (w a room : ℕ) → File s → w ≡ width_of s → a ≡ first_at s → whole_told Tidy w s a s 0 room ≡ region_tidy s room
+region_tidy-runs s w a room f e g =
+    ap (λ (v : ℕ). whole_told Tidy v s a s 0 room) e ∙ ap (λ (x : ℕ). whole_told Tidy (width_of s) s x s 0 room) g ∙ region_tidy-told f room
+
+pub region_intersect-runs : (s t : List ℕ) (w a b room : ℕ) → File s → File t → width_of s ≡ width_of t → w ≡ width_of s → a ≡ first_at s → b ≡ first_at t
+    → whole_told Intersect w s a t b room ≡ region_intersect s t room
+region_intersect-runs s t w a b room f g one e h i =
+    ap (λ (v : ℕ). whole_told Intersect v s a t b room) e
+    ∙ ap (λ (x : ℕ). whole_told Intersect (width_of s) s x t b room) h
+    ∙ ap (λ (y : ℕ). whole_told Intersect (width_of s) s (first_at s) t y room) i
+    ∙ region_intersect-told f g one room
+
+pub region_less-runs : (s t : List ℕ) (w a b room : ℕ) (r : Answer) → File s → r ≡ outcome (record_tests (width_of s) t 2) → r.number ≡ 0
+    → w ≡ width_of s → a ≡ first_at s → b ≡ (front_at t 0).base → whole_told (Less b) w s a t b room ≡ region_less s t room
+region_less-runs s t w a b room r f is z e h i =
+    ap (λ (v : ℕ). whole_told (Less b) v s a t b room) e
+    ∙ ap (λ (x : ℕ). whole_told (Less b) (width_of s) s x t b room) h
+    ∙ ap (λ (y : ℕ). whole_told (Less y) (width_of s) s (first_at s) t y room) i
+    ∙ region_less-told f t r is z room

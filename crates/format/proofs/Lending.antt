@@ -134,11 +134,11 @@ silent-answer e f = e ∙ ap (λ (x : Told). x.answer) f
 pub silent-bytes : {t : Told} {a : Answer} {old : List ℕ} → silent a ≡ t → old ≡ over old t.bytes
 silent-bytes {old = old} f = ap (λ (x : Told). over old x.bytes) f
 
-pub told-answer : {x t : Told} {r : Answer} → r ≡ x.answer → x ≡ t → r ≡ t.answer
-told-answer e g = e ∙ ap (λ (y : Told). y.answer) g
+pub told-answer : {x t : Told} {r : Answer} → x ≡ t → r ≡ x.answer → r ≡ t.answer
+told-answer g e = e ∙ ap (λ (y : Told). y.answer) g
 
-pub told-bytes : {x t : Told} (old : List ℕ) {new : List ℕ} → new ≡ over old x.bytes → x ≡ t → new ≡ over old t.bytes
-told-bytes old f g = f ∙ ap (λ (y : Told). over old y.bytes) g
+pub told-bytes : {x t : Told} (old : List ℕ) {new : List ℕ} → x ≡ t → new ≡ over old x.bytes → new ≡ over old t.bytes
+told-bytes old g f = f ∙ ap (λ (y : Told). over old y.bytes) g
 
 -- the length and the kind of a record, and all its numbers: r is what is wrong, or 0
 module _ (kind : ℕ) (s : List ℕ) (at r : ℕ) (e : r ≡ outcome (frame_rows kind s at)) where

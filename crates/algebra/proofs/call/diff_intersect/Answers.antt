@@ -21,4 +21,4 @@ pub returns : goal.returns
 returns c =
     let x = c.args in
     let e = c.write_region.ensures in
-    record { answer = told-answer e.answer (diff_intersect-told x.w x.s.now x.t.now _ c.two_refusal-refusal.ensures c.if-refusal-ne0.false _); bytes = told-bytes _ e.buffer (diff_intersect-told x.w x.s.now x.t.now _ c.two_refusal-refusal.ensures c.if-refusal-ne0.false _) }
+    record { answer = told-answer (diff_intersect-told x.w x.s.now x.t.now _ c.two_refusal-refusal.ensures c.if-refusal-ne0.false _) e.answer; bytes = told-bytes _ (diff_intersect-told x.w x.s.now x.t.now _ c.two_refusal-refusal.ensures c.if-refusal-ne0.false _) e.buffer }

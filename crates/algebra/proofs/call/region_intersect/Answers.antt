@@ -1,5 +1,6 @@
 -- `algebra::call::region_intersect` meets its contract.
 use mathlib.Core.Path.{◌≡◌, sym, ◌∙◌}
+use lib.ListN.{length}
 use borrow.Author.Rules.{rules}
 use Rattle.format.specs.Records.{width_of}
 use Rattle.format.specs.Calls.{region_intersect}
@@ -7,7 +8,7 @@ use Rattle.format.proofs.Reached.{reached}
 use Rattle.format.proofs.Lending.{silent-answer, silent-bytes, told-answer, told-bytes}
 use Rattle.format.proofs.Filing.{File}
 use Rattle.region.proofs.Onward.{file-read}
-use Rattle.algebra.proofs.Calling.{file-fault, file-lent, region_intersect-stand, region_intersect-told}
+use Rattle.algebra.proofs.Calling.{file-fault, file-lent, region_intersect-stand, region_intersect-told, region_intersect-runs}
 use Rattle.algebra.proofs.call.region_intersect.Goals as goal
 
 pub returns-then-first-ne0 : goal.returns-then-first-ne0
@@ -40,5 +41,5 @@ returns c =
     let first : File c.args.s.now = file-read c.check_file-first.ensures c.if-first-ne0.false in
     let second : File c.args.t.now = file-read c.check_file-second.ensures c.if-second-ne0.false in
     let one_width : let x = c.args in width_of x.s.now ≡ width_of x.t.now = sym c.check_file-first.ensures.width ∙ c.if-first-second.false ∙ c.check_file-second.ensures.width in
-    let e = rw (c.check_file-first.ensures.width, c.first_at.ensures, c.first_at-2.ensures) at c.write_region.ensures in
-    record { answer = told-answer e.answer (region_intersect-told first second one_width _); bytes = told-bytes _ e.buffer (region_intersect-told first second one_width _) }
+    let is = region_intersect-runs c.args.s.now c.args.t.now _ _ _ (length c.args.out.now) first second one_width c.check_file-first.ensures.width c.first_at.ensures c.first_at-2.ensures in
+    record { answer = told-answer is c.write_region.ensures.answer; bytes = told-bytes c.args.out.now is c.write_region.ensures.buffer }

@@ -4,7 +4,8 @@ use native.Mathlib.Omega.{arith}
 use native.Mathlib.Nat.{mul-le-mul}
 use mathlib.Core.Path.{◌≡◌}
 use mathlib.Core.List.{List, [], ◌∷◌}
-use mathlib.Core.Bool.{true}
+use mathlib.Core.Bool.{Bool, true, cond}
+use Rattle.model.specs.Cube.{Cube}
 use lib.ListN.{length, take}
 use lib.Seq.{length-take-le}
 use borrow.Author.Tests.{not-true, not-false}
@@ -19,8 +20,8 @@ use Rattle.algebra.specs.Stops.{bases_of}
 use Rattle.algebra.proofs.piece.make.Goals as goal
 
 -- the bytes of the base, as they are lent
-abbrev base : tie.After-put-base → List ℕ
-base c = take (c.before.before.before.before.before.args.q - 0) c.put-base.new.1.1.1.1.1.0
+abbrev base : ℕ → List ℕ → List ℕ
+base q b = take (q - 0) b
 
 lent_length : (q : ℕ) (b : List ℕ) → q ≤ length b → length (take (q - 0) b) ≡ q
 lent_length q b h = let e : q - 0 ≡ q = omega arith in rw e (length-take-le q b h)
@@ -29,20 +30,19 @@ lent_length q b h = let e : q - 0 ≡ q = omega arith in rw e (length-take-le q 
 row-taken : (n q : ℕ) → n ≤ taken_cuts → q ≤ widest_cube → (n + 1) * q ≤ taken_bytes
 row-taken n q h l = mul-le-mul {n₂ = taken_cuts + 1} {m₂ = widest_cube} (omega arith) l
 
-base-is : (c : tie.After-put-base) → c.put-base.result ≡ true
-    → let p = c.before.before.before.before.before.args in codes (base c) ∷ [] ≡ bases_of p.q p.s.now p.front p.t.now p.stop
+base-is : (q : ℕ) (b : List ℕ) (r : Bool) (bases : List Cube) → r ≡ true → cond r (whole_at q b 0 ∷ []) [] ≡ bases → codes (base q b) ∷ [] ≡ bases
 unfolding whole_at cube_of
-base-is c e = let p = c.before.before.before.before.before.args in let d : p.q - 0 ≡ p.q = omega arith in rw d (rw e at c.put-base.ensures)
+base-is q b r bases e h = let d : q - 0 ≡ q = omega arith in rw d (rw e at h)
 
 pub returns-then-not-put_base : goal.returns-then-not-put_base
 returns-then-not-put_base c =
     let x = c.args in
-    let e = not-true c.put_base.result c.if-not-put_base.true in
+    let e = c.if-not-put_base.true in
     piece-none x.q x.s.now x.front x.t.now x.stop x.buf.now (rw e at c.put_base.ensures)
 
 pub take_cuts-requires : goal.take_cuts-requires
 take_cuts-requires c =
-    let base-length : length (base c) ≡ c.args.q =
+    let base-length : length (base c.args.q c.put_base.new.base) ≡ c.args.q =
     lent_length c.args.q c.put_base.new.base
     (omega (arith, c.put_base.auto.base, c.requires.0)) in
     let x = c.args in
@@ -50,31 +50,31 @@ take_cuts-requires c =
 
 pub returns-in_default : goal.returns-in_default
 returns-in_default c =
-    let base-length : length (base c) ≡ c.args.q =
+    let base-length : length (base c.args.q c.put_base.new.base) ≡ c.args.q =
     lent_length c.args.q c.put_base.new.base
     (omega (arith, c.put_base.auto.base, c.requires.0)) in
     let x = c.args in
-    piece-omitted x.q x.s.now x.front x.t.now x.stop (base c) base-length (base-is c c.if-not-put_base.false)
-    x.buf.now _ _ _ c.take_cuts.ensures c.enum_told.given.1
+    piece-omitted x.q x.s.now x.front x.t.now x.stop (base x.q c.put_base.new.base) base-length (base-is x.q c.put_base.new.base _ _ c.if-not-put_base.false c.put_base.ensures)
+    x.buf.now _ _ _ c.take_cuts.ensures c.in_default.is
 
 pub take_cuts-requires-2 : goal.take_cuts-requires-2
 take_cuts-requires-2 c =
-    let base-length : length (base c) ≡ c.args.q =
+    let base-length : length (base c.args.q c.put_base.new.base) ≡ c.args.q =
     lent_length c.args.q c.put_base.new.base
     (omega (arith, c.put_base.auto.base, c.requires.0)) in
     let x = c.args in
-    let h = kept-most _ _ _ c.some-1.given.1 c.take_cuts.ensures.few in
-    let k : c.some-1.given.0.0 + x.stop.cuts ≤ taken_cuts = omega (arith, h, c.requires.2.few, c.requires.3.few) in
+    let h = kept-most _ _ _ c.in-Kept.is c.take_cuts.ensures.few in
+    let k : c.in-Kept.some + x.stop.cuts ≤ taken_cuts = omega (arith, h, c.requires.2.few, c.requires.3.few) in
     rw (base-length, c.take_cuts.auto.buf, c.requires.1) (c.requires.3.cuts, k, row-taken _ x.q k c.requires.0)
 
 pub returns-in_default-take_cuts : goal.returns-in_default-take_cuts
 returns-in_default-take_cuts c =
-    let base-length : length (base c) ≡ c.args.q =
+    let base-length : length (base c.args.q c.put_base.new.base) ≡ c.args.q =
     lent_length c.args.q c.put_base.new.base
     (omega (arith, c.put_base.auto.base, c.requires.0)) in
     let x = c.args in
-    piece-covered x.q x.s.now x.front x.t.now x.stop (base c) base-length (base-is c c.if-not-put_base.false)
-    x.buf.now _ _ _ c.take_cuts.ensures _ c.some-1.given.1 _ _ c.take_cuts-2.ensures c.enum-told2.given.1
+    piece-covered x.q x.s.now x.front x.t.now x.stop (base x.q c.put_base.new.base) base-length (base-is x.q c.put_base.new.base _ _ c.if-not-put_base.false c.put_base.ensures)
+    x.buf.now _ _ _ c.take_cuts.ensures _ c.in-Kept.is _ _ c.take_cuts-2.ensures c.in_default-take_cuts.is
 
 pub slice_bounds-put-end : goal.slice_bounds-put-end
 slice_bounds-put-end c =
@@ -82,11 +82,11 @@ slice_bounds-put-end c =
 
 pub returns : goal.returns
 returns c =
-    let base-length : length (base c) ≡ c.args.q =
+    let base-length : length (base c.args.q c.put_base.new.base) ≡ c.args.q =
     lent_length c.args.q c.put_base.new.base
     (omega (arith, c.put_base.auto.base, c.requires.0)) in
     let x = c.args in
-    piece-kept x.q x.s.now x.front x.t.now x.stop (base c) base-length (base-is c c.if-not-put_base.false)
-    x.buf.now _ _ _ c.take_cuts.ensures _ c.some-1.given.1 _ _ c.take_cuts-2.ensures
-    _ c.all-1.given.1 (omega (arith, c.requires.2.few)) c.requires.3.few _
+    piece-kept x.q x.s.now x.front x.t.now x.stop (base x.q c.put_base.new.base) base-length (base-is x.q c.put_base.new.base _ _ c.if-not-put_base.false c.put_base.ensures)
+    x.buf.now _ _ _ c.take_cuts.ensures _ c.in-Kept.is _ _ c.take_cuts-2.ensures
+    _ c.in-Kept-take_cuts.is (omega (arith, c.requires.2.few)) c.requires.3.few _
     (rw (c.take_cuts-2.auto.buf, c.take_cuts.auto.buf, c.requires.1) (omega (arith, c.requires.0))) c.put.ensures

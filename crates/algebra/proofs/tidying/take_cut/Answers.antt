@@ -19,11 +19,8 @@ use Rattle.algebra.proofs.Meeting.{met-back}
 use Rattle.algebra.proofs.tidying.take_cut.Goals as goal
 
 -- what the buffer holds once the cut is met with the base
-abbrev held : tie.After-meet-into → List ℕ
-held c =
-    let p = (start c).args in
-    let o = slot p.base.now p.kept in
-    put_mid o (length p.buf.now - o) p.buf.now c.meet-into.new.1.1.0
+abbrev held : List ℕ → List ℕ → ℕ → List ℕ → List ℕ
+held base buf kept cut = let o = slot base kept in put_mid o (length buf - o) buf cut
 
 pub returns-then-not-meets : goal.returns-then-not-meets
 returns-then-not-meets c =
@@ -33,38 +30,38 @@ returns-then-not-meets c =
 
 pub returns-then-equal : goal.returns-then-equal
 returns-then-equal c =
-    let put : let p = c.args in held c ≡ laid p.buf.now (slot p.base.now p.kept) (and_bytes p.base.now (take (length p.base.now) (drop p.at p.s.now))) =
+    let put : let p = c.args in held p.base.now p.buf.now p.kept c.meet_into.new.out ≡ laid p.buf.now (slot p.base.now p.kept) (and_bytes p.base.now (take (length p.base.now) (drop p.at p.s.now))) =
     let p = c.args in
     met-back p.base.now p.s.now p.at c.requires.0 p.buf.now c.meet_into.new.out _ _ (omega (arith, c.requires.2)) refl c.meet_into.ensures in
     let meets-so : let p = c.args in true ≡ shares (codes p.base.now) (whole_at (length p.base.now) p.s.now p.at) =
     let p = c.args in
     rw (whole_part (length p.base.now) p.s.now p.at) at (sym c.if-not-meets.false ∙ c.meets.ensures) in
     let p = c.args in
-    cut-covered p.base.now p.s.now p.buf.now p.at p.kept c.requires.0 c.requires.2 meets-so (held c) put
-    (rw (whole_part (length p.base.now) (held c) (slot p.base.now p.kept)) at (sym c.if-equal.true ∙ c.equal.ensures))
+    cut-covered p.base.now p.s.now p.buf.now p.at p.kept c.requires.0 c.requires.2 meets-so (held p.base.now p.buf.now p.kept c.meet_into.new.out) put
+    (rw (whole_part (length p.base.now) (held p.base.now p.buf.now p.kept c.meet_into.new.out) (slot p.base.now p.kept)) at (sym c.if-equal.true ∙ c.equal.ensures))
 
 pub returns-then-one_of : goal.returns-then-one_of
 returns-then-one_of c =
-    let put : let p = c.args in held c ≡ laid p.buf.now (slot p.base.now p.kept) (and_bytes p.base.now (take (length p.base.now) (drop p.at p.s.now))) =
+    let put : let p = c.args in held p.base.now p.buf.now p.kept c.meet_into.new.out ≡ laid p.buf.now (slot p.base.now p.kept) (and_bytes p.base.now (take (length p.base.now) (drop p.at p.s.now))) =
     let p = c.args in
     met-back p.base.now p.s.now p.at c.requires.0 p.buf.now c.meet_into.new.out _ _ (omega (arith, c.requires.2)) refl c.meet_into.ensures in
     let meets-so : let p = c.args in true ≡ shares (codes p.base.now) (whole_at (length p.base.now) p.s.now p.at) =
     let p = c.args in
     rw (whole_part (length p.base.now) p.s.now p.at) at (sym c.if-not-meets.false ∙ c.meets.ensures) in
     let p = c.args in
-    cut_again p.base.now p.s.now p.buf.now p.at p.kept c.requires.0 c.requires.2 meets-so (held c) put
-    (rw (whole_part (length p.base.now) (held c) (slot p.base.now p.kept)) at (sym c.if-equal.false ∙ c.equal.ensures))
+    cut_again p.base.now p.s.now p.buf.now p.at p.kept c.requires.0 c.requires.2 meets-so (held p.base.now p.buf.now p.kept c.meet_into.new.out) put
+    (rw (whole_part (length p.base.now) (held p.base.now p.buf.now p.kept c.meet_into.new.out) (slot p.base.now p.kept)) at (sym c.if-equal.false ∙ c.equal.ensures))
     (sym c.if-one_of.true ∙ c.one_of.ensures)
 
 pub returns : goal.returns
 returns c =
-    let put : let p = c.args in held c ≡ laid p.buf.now (slot p.base.now p.kept) (and_bytes p.base.now (take (length p.base.now) (drop p.at p.s.now))) =
+    let put : let p = c.args in held p.base.now p.buf.now p.kept c.meet_into.new.out ≡ laid p.buf.now (slot p.base.now p.kept) (and_bytes p.base.now (take (length p.base.now) (drop p.at p.s.now))) =
     let p = c.args in
     met-back p.base.now p.s.now p.at c.requires.0 p.buf.now c.meet_into.new.out _ _ (omega (arith, c.requires.2)) refl c.meet_into.ensures in
     let meets-so : let p = c.args in true ≡ shares (codes p.base.now) (whole_at (length p.base.now) p.s.now p.at) =
     let p = c.args in
     rw (whole_part (length p.base.now) p.s.now p.at) at (sym c.if-not-meets.false ∙ c.meets.ensures) in
     let p = c.args in
-    cut-more p.base.now p.s.now p.buf.now p.at p.kept c.requires.0 c.requires.2 meets-so (held c) put
-    (rw (whole_part (length p.base.now) (held c) (slot p.base.now p.kept)) at (sym c.if-equal.false ∙ c.equal.ensures))
+    cut-more p.base.now p.s.now p.buf.now p.at p.kept c.requires.0 c.requires.2 meets-so (held p.base.now p.buf.now p.kept c.meet_into.new.out) put
+    (rw (whole_part (length p.base.now) (held p.base.now p.buf.now p.kept c.meet_into.new.out) (slot p.base.now p.kept)) at (sym c.if-equal.false ∙ c.equal.ensures))
     (sym c.if-one_of.false ∙ c.one_of.ensures)

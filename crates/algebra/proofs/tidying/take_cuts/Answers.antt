@@ -19,21 +19,21 @@ pub returns-in-Omitted : goal.returns-in-Omitted
 returns-in-Omitted c =
     let p = c.args in
     row-omitted p.base.now p.buf.now p.kept (wholes_at (length p.base.now) p.s.now p.at p.n) p.s.now c.loop-left.buf c.loop-left.some c.loop-left.next c.loop-left.left c.loop-left.invariant.4
-    _ c.take_cut.result (p.kept + p.n) c.loop-left-test.true c.take_cut.ensures c.enum_told.given.1
+    _ c.take_cut.result (p.kept + p.n) c.loop-left-test.true c.take_cut.ensures c.in-Omitted.is
 
 pub loop-left-preserved : goal.loop-left-preserved
 loop-left-preserved c =
     let p = c.args in
     let h = c.loop-left-test.true in
-    let k = c.k.given.0.0 in
+    let k = c.in-Kept.k in
     let v = c.loop-left.invariant in
-    let m = kept-most c.take_cut.result k (c.loop-left.some + 1) c.k.given.1 c.take_cut.ensures.few in (
+    let m = kept-most c.take_cut.result k (c.loop-left.some + 1) c.in-Kept.is c.take_cut.ensures.few in (
       c.take_cut.auto.buf ∙ v.0,
       omega (arith, v.1, row_room c.loop-left.left (length p.base.now) h),
       omega (arith, v.2, m, h),
       omega (arith, v.3),
       row_kept p.base.now p.buf.now p.kept (wholes_at (length p.base.now) p.s.now p.at p.n) p.s.now c.loop-left.buf c.loop-left.some c.loop-left.next c.loop-left.left v.4
-          _ c.take_cut.result k h c.take_cut.ensures c.k.given.1,
+          _ c.take_cut.result k h c.take_cut.ensures c.in-Kept.is,
     )
 
 pub returns : goal.returns

@@ -83,7 +83,7 @@ returns c =
     let x = c.args in
     let old = x.out.now in
     record {
-      answer = told-answer (c.wrote.ensures ∙ ap wrote (sym size)) (reached 1 _ (rw size c.if-out-size.false, tt) ∙ goes_on);
-      bytes = told-bytes old (c.put_equality.ensures ∙ ap (λ (n : ℕ). over old (equal_bytes x.w x.p x.q n)) c.pairs_of-some.ensures
-          ∙ ap (over old) (sym (equal-bytes x.w x.p x.q x.n))) (reached 1 _ (rw size c.if-out-size.false, tt) ∙ goes_on);
+      answer = told-answer (reached 1 _ (rw size c.if-out-size.false, tt) ∙ goes_on) (c.wrote.ensures ∙ ap wrote (sym size));
+      bytes = told-bytes old (reached 1 _ (rw size c.if-out-size.false, tt) ∙ goes_on) (c.put_equality.ensures ∙ ap (λ (n : ℕ). over old (equal_bytes x.w x.p x.q n)) c.pairs_of-some.ensures
+          ∙ ap (over old) (sym (equal-bytes x.w x.p x.q x.n)));
     }

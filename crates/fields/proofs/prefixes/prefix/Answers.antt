@@ -93,4 +93,4 @@ returns c =
     let l : length ys ≡ cube_len x.w = k ∙ simp length-take (omega (arith, room, c.cube_len-size.ensures)) in
     let b = lent-bytes x.out.now ys 0 n (λ i. (c.slice_known-2-1.given i).fits) in
     let same = prefix-bytes x.w x.s x.m (bits x.value.now) ys b l within covered (rw (← k) at c.put_prefix.ensures) in
-    record { answer = told-answer (c.wrote.ensures ∙ ap wrote (sym size)) (reached 1 _ (rw size room, tt) ∙ goes_on); bytes = told-bytes x.out.now (part-back x.out.now ys 0 n (l ∙ omega (arith, c.cube_len-size.ensures)) ∙ ap (over x.out.now) same) (reached 1 _ (rw size room, tt) ∙ goes_on) }
+    record { answer = told-answer (reached 1 _ (rw size room, tt) ∙ goes_on) (c.wrote.ensures ∙ ap wrote (sym size)); bytes = told-bytes x.out.now (reached 1 _ (rw size room, tt) ∙ goes_on) (part-back x.out.now ys 0 n (l ∙ omega (arith, c.cube_len-size.ensures)) ∙ ap (over x.out.now) same) }

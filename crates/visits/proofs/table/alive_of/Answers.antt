@@ -24,6 +24,11 @@ overflow_sub-here c =
     let step : let g = c.args in Down g.at g.n c.loop-m.m (length g.piece.now) c.loop-m.here (length g.s.now) = let v = c.loop-m.invariant in down _ _ _ _ _ _ c.loop-m-test.true v.3 v.2 in
     step.there
 
+pub slice_bounds-meets-end : goal.slice_bounds-meets-end
+slice_bounds-meets-end c =
+    let step : let g = c.args in Down g.at g.n c.loop-m.m (length g.piece.now) c.loop-m.here (length g.s.now) = let v = c.loop-m.invariant in down _ _ _ _ _ _ c.loop-m-test.true v.3 v.2 in
+    omega (arith, step.inside, step.there)
+
 pub overflow_add-x : goal.overflow_add-x
 overflow_add-x c =
     let v = c.loop-m.invariant in
