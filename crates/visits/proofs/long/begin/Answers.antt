@@ -11,7 +11,7 @@ pub visit-requires : goal.visit-requires
 visit-requires c = let p = c.requires in (p.0, p.1, p.2, p.3 c.if-first.true, p.4, p.5, p.6)
 
 pub returns-then-first : goal.returns-then-first
-returns-then-first c = rw c.if-first.true c.visit.ensures.0
+returns-then-first c = rw c.if-first.true c.visit.ensures.said
 
 pub returns-then-alive-eq0 : goal.returns-then-alive-eq0
 returns-then-alive-eq0 c =
@@ -38,4 +38,4 @@ returns c =
     let p = c.requires in
     let k = c.top-m.ensures in
     let l = alive-top _ _ _ p.4.0 k.2 in
-    rw c.if-first.false (c.visit-2.ensures.0 ∙ ap (settle c.args.a) (sym (alive-passed _ _ _ _ _ p.4 k.1 l)))
+    rw c.if-first.false (c.visit-2.ensures.said ∙ ap (settle c.args.a) (sym (alive-passed _ _ _ _ _ p.4 k.1 l)))

@@ -15,6 +15,7 @@ use native.Mathlib.Nat.{sub-zero}
 use Prim.Native.Nat.{suc, ◌+◌, ◌-◌, ◌*◌, ◌≤◌}
 use borrow.Author.Rules.{rules}
 use Rattle.visits.proofs.table.alive_of.Goals as goal
+use Rattle.visits.proofs.table.alive_of.Goals.{then-meets, else-meets}
 
 pub loop-m-init : goal.loop-m-init
 loop-m-init c = (c.requires.0, omega arith, c.requires.1, rw sub-zero refl, (omega arith, λ m h. absurd (omega arith)))
@@ -48,9 +49,10 @@ loop-m-preserved c =
       omega (arith, c.loop-m-test.true),
       v.2,
       d.next,
-      ⊎_elim (λ w. met-more q g.s.now g.at g.n (codes g.piece.now) m c.loop-m.x c.if-meets.x true (omega (arith, w.2, w.1.ensures)) (sym w.0.taken ∙ b) v.4)
-          (λ w. met-more q g.s.now g.at g.n (codes g.piece.now) m c.loop-m.x c.if-meets.x false (omega (arith, w.1)) (sym w.0.left ∙ b) v.4)
-          c.if-meets.branch,
+      elim c.if-meets.branch [
+        | then-meets w ↦ met-more q g.s.now g.at g.n (codes g.piece.now) m c.loop-m.x c.if-meets.x true (omega (arith, w.x-is, w.digit_of-x.ensures)) (sym w.if-meets.true ∙ b) v.4
+        | else-meets w ↦ met-more q g.s.now g.at g.n (codes g.piece.now) m c.loop-m.x c.if-meets.x false (omega (arith, w.x-is)) (sym w.if-meets.false ∙ b) v.4
+      ],
     )
 
 pub returns : goal.returns

@@ -1,0 +1,50 @@
+-- `visits::fast::+visit` meets its contract, as its own cycle of calls. A turn of the loop is that of the plain visit; what is new is that the cuts met
+-- are digits of a word, and that a child's walk may be remembered.
+use Rattle.visits.specs.Settle.{Said, settle, left_from}
+use Rattle.visits.specs.declared.allowance.Allowance.{Allowance}
+use borrow.Author.Rules.{rules}
+use Prim.Native.Nat.{ℕ, suc, ◌+◌, ◌-◌, ◌/◌, ◌^◌, ◌≤◌, ◌<◌}
+use native.Mathlib.Nat.{pos_of_ne-zero}
+use native.Mathlib.Omega.{arith}
+use mathlib.Core.Path.{◌≡◌, refl, sym, ap, ◌∙◌}
+use mathlib.Core.Logic.{⊎_elim}
+use mathlib.Core.List.{[]}
+use lib.ListN.{length, get_or, set, length-set}
+use lib.Seq.{set-set}
+use lib.Pow.{pow_mono}
+use Rattle.model.specs.Walk.{visit as walked}
+use Rattle.model.proofs.Walking.{walk-positive}
+use Rattle.format.specs.Bytes.{code_of}
+use Rattle.visits.specs.Opening.{first_open}
+use Rattle.visits.specs.Words.{cube_of_words, row_cube, cuts_below}
+use Rattle.visits.specs.Alive.{Alive, Against}
+use Rattle.visits.specs.Memory.{Finds, Memory}
+use Rattle.visits.specs.Replies.{tells}
+use Rattle.visits.proofs.Settle.{settle-none, settle-keeps}
+use Rattle.visits.proofs.Turn.{turn_end, turn-covered, turn-stop, is-covered, not_covered}
+use Rattle.visits.proofs.WordCubes.{words-length}
+use Rattle.visits.proofs.Meeting.{alive-fewer, alive-meets, alive-top, alive-passed, alive-none, against-fewer}
+use Rattle.visits.proofs.Paying.{covered-finds}
+use Rattle.visits.proofs.Narrowing.{Opened, opened, took-cube, took-alive, later_first, begun, survives-stops, tells-covered}
+use Rattle.visits.proofs.fast.+visit.Given as goal
+
+abbrev pub invariant-loop-i : goal.invariant-loop-i
+invariant-loop-i l =
+    (l.n < length l.cuts)
+    × (length l.against ≡ 640)
+    × (l.have.left + l.have.spent < 2 ^ 32)
+    × (length l.near ≡ 10)
+    × (l.i ≡ first_open (cube_of_words l.near) (cube_of_words l.cut))
+    × (cube_of_words l.cut ≡ row_cube l.cuts l.n)
+    × (left_from (walked (cuts_below l.cuts l.n)) (cube_of_words l.cut) l.initial.have (cube_of_words l.initial.near)
+    ≡ left_from (walked (cuts_below l.cuts l.n)) (cube_of_words l.cut) l.have (cube_of_words l.near))
+    × Alive l.cuts l.n (cube_of_words l.near) l.met
+    × Against l.cuts l.n l.against
+    × Memory l.cuts l.slots
+    × (length l.slots ≡ length l.initial.slots)
+
+abbrev pub decreases-loop-i : goal.decreases-loop-i
+decreases-loop-i l = 320 - l.i
+
+abbrev pub decreases-visit : goal.decreases-visit
+decreases-visit l = l.n
