@@ -1,0 +1,17 @@
+-- `walk::empty::walk_file` meets its contract. The loop's invariant: what is left to walk, and the differences before it are covered.
+use Prim.Native.Nat.{◌-◌}
+use native.Mathlib.Omega.{arith}
+use lib.ListN.{length}
+use borrow.Author.Rules.{rules}
+use Rattle.format.proofs.Filing.{file-of}
+use Rattle.region.proofs.Onward.{onward-record}
+use Rattle.region.proofs.Fronts.{front-next, front-stands}
+use Rattle.visits.proofs.Turn.{is-covered, not_covered}
+use Rattle.walk.proofs.Emptied.{FileLeft, file-begun, file-few, file-turn, file-stop, file-ended}
+use Rattle.walk.proofs.empty.walk_file.Given as goal
+
+abbrev pub invariant-loop-at : goal.invariant-loop-at
+invariant-loop-at l = FileLeft l.q l.s l.initial.have l.have l.at l.i
+
+abbrev pub decreases-loop-at : goal.decreases-loop-at
+decreases-loop-at l = length l.s - l.at
