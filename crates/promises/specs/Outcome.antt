@@ -14,7 +14,7 @@
 --   Unwritten r              == the result r is a refusal, yes or undecided
 use Rattle.std.specs.Prelude.{ℕ, ◌≤◌, ◌≡◌, List, ◌⊎◌, length}
 use contract.Lifetimes.{Lfts}
-use Rattle.std.specs.Borrow.{Bor}
+use Rattle.std.specs.Borrow.{Bor, MutBor}
 use denote.Triple.Clauses.{AtExit}
 use borrow.Fn.Kind.{ParamKind, ResultKind}
 use borrow.Fn.Kinds.{In, Out, Dens, res_t, ended_of}
@@ -26,7 +26,7 @@ pub record Promise {n : ℕ} (ps : List (ParamKind n)) (r : ResultKind n) (Asked
   pub anything : (κs : Lfts n) (a : Dens κs ps) → Asked κs a
   pub permits : (κs : Lfts n) (a : Dens κs ps) (x : (res_t r κs).Denot) (e : AtExit (ended_of n ps r) κs) → Learnt κs a x e → P κs a x e
 
-abbrev pub Buffered : (ℕ → Told) → Bor (List ℕ) → Answer → Bor (List ℕ) → Type 0
+abbrev pub Buffered : (ℕ → Told) → MutBor (List ℕ) → Answer → MutBor (List ℕ) → Type 0
 Buffered tell old x new = Permitted (tell (length old.now)) old.now x new.now
 
 abbrev pub OneOutcome : Told → List ℕ → Type 0
