@@ -12,7 +12,7 @@ use mathlib.Core.Path.{◌≡◌, refl, ap, subst, ◌∙◌}
 use mathlib.Core.List.{List, [], ◌∷◌, ◌++◌, map}
 use mathlib.Core.Bool.{Bool, true, false, not, cond, ◌&&◌, ◌||◌}
 use lib.ListN.{length, get_or}
-use Rattle.model.specs.Cube.{Header, Cube, holds, meet, shares}
+use Rattle.model.specs.Cube.{Header, Cube, holds, shares}
 use Rattle.model.specs.Difference.{Difference, less, Region, any_holds, in_difference, in_region}
 use Rattle.model.specs.Algebra.{restored}
 use Rattle.model.specs.Walk.{nothing, piece, Found, in_turn, walk, walk_region, walk_inclusion, given_back, walk_back, pieces_less, walks_less, stop}

@@ -1,5 +1,4 @@
 -- `hex_bytes::digit` meets its contract.
-use borrow.Author.Rules.{rules}
 use borrow.Author.Tests.{lt-ltb, le-ltb}
 use Rattle.hex_bytes.proofs.digit.Goals as goal
 

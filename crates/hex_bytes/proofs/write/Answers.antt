@@ -1,11 +1,10 @@
-use Prim.Native.Nat.{◌-◌, ◌≤◌}
 use native.Mathlib.Numerals.{add-one}
 use native.Mathlib.Omega.{arith}
 use mathlib.Core.Path.{◌≡◌, refl}
-use lib.ListN.{length, take, length-set}
+use lib.ListN.{length-set}
 use borrow.Author.Rules.{rules}
 use Rattle.hex_bytes.proofs.Writing.{one_more}
-use Rattle.hex_bytes.specs.Digits.{with_digits, fitting}
+use Rattle.hex_bytes.specs.Digits.{fitting}
 use Rattle.hex_bytes.proofs.write.Goals as goal
 
 pub loop-i-init : goal.loop-i-init

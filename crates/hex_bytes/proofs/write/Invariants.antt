@@ -1,12 +1,8 @@
 -- `hex_bytes::write` meets its contract. The loop's invariant: the digits of the first i bytes are written.
 use Prim.Native.Nat.{◌-◌, ◌≤◌}
-use native.Mathlib.Numerals.{add-one}
-use native.Mathlib.Omega.{arith}
-use mathlib.Core.Path.{◌≡◌, refl}
-use lib.ListN.{length, take, length-set}
-use borrow.Author.Rules.{rules}
-use Rattle.hex_bytes.proofs.Writing.{one_more}
-use Rattle.hex_bytes.specs.Digits.{with_digits, fitting}
+use mathlib.Core.Path.{◌≡◌}
+use lib.ListN.{length, take}
+use Rattle.hex_bytes.specs.Digits.{with_digits}
 use Rattle.hex_bytes.proofs.write.Given as goal
 
 abbrev pub invariant-loop-i : goal.invariant-loop-i

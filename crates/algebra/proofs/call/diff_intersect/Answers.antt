@@ -1,6 +1,5 @@
 -- `algebra::call::diff_intersect` meets its contract.
 use mathlib.Core.Path.{refl}
-use borrow.Author.Rules.{rules}
 use Rattle.format.proofs.Lending.{two-refused, silent-answer, silent-bytes, told-answer, told-bytes}
 use Rattle.format.specs.Calls.{diff_intersect}
 use Rattle.algebra.proofs.Calling.{diff_intersect-stand, diff_intersect-told}

@@ -1,14 +1,13 @@
 -- `algebra::call::region_intersect` meets its contract.
 use mathlib.Core.Path.{◌≡◌, sym, ◌∙◌}
 use lib.ListN.{length}
-use borrow.Author.Rules.{rules}
 use Rattle.format.specs.Records.{width_of}
 use Rattle.format.specs.Calls.{region_intersect}
 use Rattle.format.proofs.Reached.{reached}
 use Rattle.format.proofs.Lending.{silent-answer, silent-bytes, told-answer, told-bytes}
 use Rattle.format.proofs.Filing.{File}
 use Rattle.region.proofs.Onward.{file-read}
-use Rattle.algebra.proofs.Calling.{file-fault, file-lent, region_intersect-stand, region_intersect-told, region_intersect-runs}
+use Rattle.algebra.proofs.Calling.{file-fault, file-lent, region_intersect-stand, region_intersect-runs}
 use Rattle.algebra.proofs.call.region_intersect.Goals as goal
 
 pub returns-then-first-ne0 : goal.returns-then-first-ne0

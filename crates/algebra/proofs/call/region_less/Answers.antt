@@ -1,7 +1,6 @@
 -- `algebra::call::region_less` meets its contract.
 use mathlib.Core.Path.{◌≡◌, refl, ◌∙◌}
 use lib.ListN.{length}
-use borrow.Author.Rules.{rules}
 use Rattle.format.specs.Rows.{outcome}
 use Rattle.format.specs.Records.{width_of}
 use Rattle.format.specs.Told.{record_tests}
@@ -9,7 +8,7 @@ use Rattle.format.specs.Calls.{region_less}
 use Rattle.format.proofs.Lending.{record-refused, silent-answer, silent-bytes, told-answer, told-bytes}
 use Rattle.format.proofs.Filing.{File}
 use Rattle.region.proofs.Onward.{file-read}
-use Rattle.algebra.proofs.Calling.{file-fault, file-lent, region_less-stand, region_less-told, region_less-runs}
+use Rattle.algebra.proofs.Calling.{file-fault, file-lent, region_less-stand, region_less-runs}
 use Rattle.algebra.proofs.call.region_less.Goals as goal
 
 pub returns-then-file-ne0 : goal.returns-then-file-ne0

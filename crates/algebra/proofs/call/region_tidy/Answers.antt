@@ -1,11 +1,10 @@
 -- `algebra::call::region_tidy` meets its contract.
 use lib.ListN.{length}
-use borrow.Author.Rules.{rules}
 use Rattle.format.specs.Calls.{region_tidy}
 use Rattle.format.proofs.Lending.{silent-answer, silent-bytes, told-answer, told-bytes}
 use Rattle.format.proofs.Filing.{File}
 use Rattle.region.proofs.Onward.{file-read}
-use Rattle.algebra.proofs.Calling.{file-fault, region_tidy-stand, region_tidy-told, region_tidy-runs}
+use Rattle.algebra.proofs.Calling.{file-fault, region_tidy-stand, region_tidy-runs}
 use Rattle.algebra.proofs.call.region_tidy.Goals as goal
 
 pub returns-then-file-ne0 : goal.returns-then-file-ne0

@@ -1,10 +1,6 @@
-use Prim.Native.Nat.{◌+◌, ◌*◌, ◌≤◌}
 use native.Mathlib.Omega.{arith}
-use mathlib.Core.Path.{◌≡◌, refl, sym, ◌∙◌}
-use lib.ListN.{length}
-use borrow.Author.Rules.{rules}
-use Rattle.model.specs.Tidy.{among}
-use Rattle.cube.specs.Whole.{whole_at, wholes_at}
+use mathlib.Core.Path.{refl, sym, ◌∙◌}
+use Rattle.cube.specs.Whole.{whole_at}
 use Rattle.cube.proofs.Wholes.{whole_part, row_room, wholes-none, among-found, among-passed}
 use Rattle.algebra.proofs.compare.one_of.Goals as goal
 

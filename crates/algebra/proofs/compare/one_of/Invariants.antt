@@ -1,12 +1,9 @@
 -- `algebra::compare::one_of` meets its contract. The loop's invariant: the cubes left decide.
 use Prim.Native.Nat.{◌+◌, ◌*◌, ◌≤◌}
-use native.Mathlib.Omega.{arith}
-use mathlib.Core.Path.{◌≡◌, refl, sym, ◌∙◌}
+use mathlib.Core.Path.{◌≡◌}
 use lib.ListN.{length}
-use borrow.Author.Rules.{rules}
 use Rattle.model.specs.Tidy.{among}
 use Rattle.cube.specs.Whole.{whole_at, wholes_at}
-use Rattle.cube.proofs.Wholes.{whole_part, row_room, wholes-none, among-found, among-passed}
 use Rattle.algebra.proofs.compare.one_of.Given as goal
 
 abbrev pub invariant-loop-left : goal.invariant-loop-left

@@ -8,15 +8,12 @@ use mathlib.Core.Bool.{Bool, true, cond}
 use Rattle.model.specs.Cube.{Cube}
 use lib.ListN.{length, take}
 use lib.Seq.{length-take-le}
-use borrow.Author.Tests.{not-true, not-false}
-use borrow.Author.Rules.{rules}
 use Rattle.format.specs.Limits.{widest_cube, taken_cuts}
 use Rattle.format.specs.Bytes.{codes}
 use Rattle.cube.specs.Whole.{cube_of, whole_at}
 use Rattle.algebra.proofs.Taking.{kept-most}
 use Rattle.algebra.proofs.Pieces.{piece-none, piece-omitted, piece-covered, piece-kept}
 use Rattle.algebra.specs.Tidied.{taken_bytes}
-use Rattle.algebra.specs.Stops.{bases_of}
 use Rattle.algebra.proofs.piece.make.Goals as goal
 
 -- the bytes of the base, as they are lent

@@ -5,7 +5,6 @@ use mathlib.Core.Bool.{true}
 use mathlib.Core.Path.{◌≡◌, sym, ◌∙◌}
 use lib.ListN.{length}
 use borrow.Author.Tests.{not-true, not-false}
-use borrow.Author.Rules.{rules}
 use Rattle.algebra.proofs.Pieces.{base-own, base-none, base-met}
 use Rattle.algebra.proofs.piece.put_base.Goals as goal
 

@@ -4,7 +4,6 @@ use native.Mathlib.Omega.{arith}
 use mathlib.Core.Path.{◌≡◌, refl, sym, ◌∙◌}
 use mathlib.Core.List.{List, ◌++◌}
 use lib.ListN.{length, take}
-use borrow.Author.Rules.{rules}
 use Rattle.model.specs.Difference.{Region}
 use Rattle.format.specs.Bytes.{cube_len}
 use Rattle.format.specs.Records.{width_bytes, differences_bytes}

@@ -1,6 +1,5 @@
 -- `algebra::run::add` meets its contract.
 use native.Mathlib.Omega.{arith}
-use borrow.Author.Rules.{rules}
 use Rattle.cube.proofs.Wholes.{row-length}
 use Rattle.region.specs.Writing.{row_difference}
 use Rattle.region.proofs.Writing.{all-bytes, cubes-few, record-longest, record-length}

@@ -3,7 +3,6 @@ use Prim.Native.Nat.{◌+◌, ◌-◌, ◌*◌, ◌≤◌}
 use native.Mathlib.Omega.{arith}
 use mathlib.Core.Path.{refl, ◌∙◌}
 use lib.ListN.{length, take, drop, length-take, length-drop}
-use borrow.Author.Rules.{rules}
 use Rattle.format.specs.Records.{front_len, difference_bytes}
 use Rattle.cube.proofs.Laying.{tail-back}
 use Rattle.region.specs.Writing.{record_len, longest_record, row_difference}

@@ -1,16 +1,14 @@
-use Prim.Native.Nat.{◌+◌, ◌-◌, ◌*◌}
 use native.Mathlib.Omega.{arith}
 use mathlib.Core.Path.{◌≡◌, refl, sym, ap, ap₂, ◌∙◌}
 use mathlib.Core.List.{[], ◌++◌, append-nil, append_assoc}
 use lib.ListN.{length}
-use borrow.Author.Rules.{rules}
 use Rattle.model.specs.Difference.{Region}
 use Rattle.model.specs.Tidy.{tidy_region}
 use Rattle.region.proofs.Fronts.{front_same}
 use Rattle.region.specs.Front.{front_at}
 use Rattle.region.specs.declared.front.Front.{Front}
 use Rattle.algebra.proofs.Counting.{count_none, count-over}
-use Rattle.algebra.proofs.Running.{stop-on, left, left-begin, left-stop, left-turn, left_end, Going, records-turn, stops-turn, pairs-less}
+use Rattle.algebra.proofs.Running.{stop-on, left, left-begin, left-stop, left-turn, left_end, records-turn, stops-turn, pairs-less}
 use Rattle.algebra.specs.Stops.{stop_at, pieces_of}
 use Rattle.algebra.specs.Tidied.{held}
 use Rattle.algebra.specs.Totals.{made, total, Counted}

@@ -2,7 +2,6 @@
 use native.Mathlib.Omega.{arith}
 use mathlib.Core.Path.{refl}
 use borrow.Author.Tests.{eq-eqb, ne_eqb}
-use borrow.Author.Rules.{rules}
 use Rattle.region.proofs.Fronts.{front_same}
 use Rattle.algebra.specs.Stops.{stop_at}
 use Rattle.algebra.proofs.stop.stop_at.Goals as goal

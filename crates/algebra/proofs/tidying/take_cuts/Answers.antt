@@ -1,11 +1,10 @@
-use Prim.Native.Nat.{◌+◌, ◌*◌, ◌≤◌}
+use Prim.Native.Nat.{◌+◌}
 use native.Mathlib.Omega.{arith}
-use mathlib.Core.Path.{◌≡◌, ◌∙◌}
+use mathlib.Core.Path.{◌∙◌}
 use lib.ListN.{length}
-use borrow.Author.Rules.{rules}
 use Rattle.cube.proofs.Wholes.{row_room}
 use Rattle.cube.specs.Whole.{wholes_at}
-use Rattle.algebra.proofs.Taking.{TakesOn, row_kept, row-omitted, row-taken, kept-most, row_fits}
+use Rattle.algebra.proofs.Taking.{row_kept, row-omitted, row-taken, kept-most, row_fits}
 use Rattle.algebra.proofs.tidying.take_cuts.Goals as goal
 
 pub take_cut-requires : goal.take_cut-requires

@@ -1,13 +1,10 @@
 -- `algebra::tidying::take_cuts` meets its contract. The loop's invariant (`TakesOn`): the cuts passed are
 -- taken, and those left are to be taken with the cuts that are kept.
 use Prim.Native.Nat.{◌+◌, ◌*◌, ◌≤◌}
-use native.Mathlib.Omega.{arith}
-use mathlib.Core.Path.{◌≡◌, ◌∙◌}
+use mathlib.Core.Path.{◌≡◌}
 use lib.ListN.{length}
-use borrow.Author.Rules.{rules}
-use Rattle.cube.proofs.Wholes.{row_room}
 use Rattle.cube.specs.Whole.{wholes_at}
-use Rattle.algebra.proofs.Taking.{TakesOn, row_kept, row-omitted, row-taken, kept-most, row_fits}
+use Rattle.algebra.proofs.Taking.{TakesOn}
 use Rattle.algebra.proofs.tidying.take_cuts.Given as goal
 
 abbrev pub invariant-loop-left : goal.invariant-loop-left

@@ -2,7 +2,6 @@
 use Prim.Native.Nat.{◌≤◌}
 use native.Mathlib.Omega.{arith}
 use mathlib.Core.Path.{◌∙◌}
-use borrow.Author.Rules.{rules}
 use Rattle.format.specs.Limits.{widest}
 use Rattle.format.proofs.Reached.{reached}
 use Rattle.format.proofs.Lending.{width-refused, width-lent}

@@ -1,7 +1,6 @@
 -- `fields::equality::put_apart` meets its contract: the two codes are set in a free cube.
 use mathlib.Core.Path.{◌∙◌}
 use lib.ListN.{length}
-use borrow.Author.Rules.{rules}
 use Rattle.format.proofs.Coding.{codes-free}
 use Rattle.fields.proofs.equality.put_apart.Goals as goal
 

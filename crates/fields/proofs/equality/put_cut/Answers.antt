@@ -3,7 +3,6 @@ use Prim.Native.Nat.{◌+◌, ◌-◌}
 use native.Mathlib.Omega.{arith}
 use mathlib.Core.Path.{◌≡◌, ap, ◌∙◌}
 use lib.ListN.{length, length-take, length-drop}
-use borrow.Author.Rules.{rules}
 use Rattle.format.specs.Bytes.{cube_len, code_of}
 use Rattle.cube.specs.Lay.{laid}
 use Rattle.cube.proofs.Laying.{part-back}

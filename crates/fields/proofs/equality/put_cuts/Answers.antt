@@ -1,9 +1,8 @@
-use Prim.Native.Nat.{◌+◌, ◌-◌, ◌*◌, ◌≤◌}
+use Prim.Native.Nat.{◌+◌, ◌*◌, ◌≤◌}
 use native.Mathlib.Omega.{arith}
 use mathlib.Core.Path.{◌≡◌, refl, sym, ap, ◌∙◌}
 use mathlib.Core.List.{◌++◌}
 use lib.ListN.{length, length-append}
-use borrow.Author.Rules.{rules}
 use Rattle.model.specs.Cube.{v0, v1}
 use Rattle.model.specs.Fields.{apart, unequal}
 use Rattle.format.specs.Bytes.{cube_len, write_cube}

@@ -1,17 +1,11 @@
 -- `fields::equality::put_cuts` meets its contract: the cuts of each position passed are written.
-use Prim.Native.Nat.{◌+◌, ◌-◌, ◌*◌, ◌≤◌}
-use native.Mathlib.Omega.{arith}
-use mathlib.Core.Path.{◌≡◌, refl, sym, ap, ◌∙◌}
-use mathlib.Core.List.{◌++◌}
-use lib.ListN.{length, length-append}
-use borrow.Author.Rules.{rules}
-use Rattle.model.specs.Cube.{v0, v1}
-use Rattle.model.specs.Fields.{apart, unequal}
-use Rattle.format.specs.Bytes.{cube_len, write_cube}
+use Prim.Native.Nat.{◌-◌, ◌*◌, ◌≤◌}
+use mathlib.Core.Path.{◌≡◌}
+use lib.ListN.{length}
+use Rattle.model.specs.Fields.{unequal}
+use Rattle.format.specs.Bytes.{cube_len}
 use Rattle.format.specs.Records.{cubes_bytes}
 use Rattle.format.specs.Told.{over}
-use Rattle.cube.proofs.Laying.{over-more}
-use Rattle.fields.proofs.Fielding.{cuts-more, cut-length, cuts-length, cuts-room}
 use Rattle.fields.proofs.equality.put_cuts.Given as goal
 
 abbrev pub invariant-loop-i : goal.invariant-loop-i

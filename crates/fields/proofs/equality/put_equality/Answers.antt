@@ -5,7 +5,6 @@ use mathlib.Core.Path.{◌≡◌, refl, sym, ap, ◌∙◌}
 use mathlib.Core.List.{◌++◌, append_assoc}
 use lib.ListN.{length, take, drop, replicate, length-append, length-take, length-drop}
 use borrow.Rule.Slice.PartMut.{put_mid}
-use borrow.Author.Rules.{rules}
 use Rattle.model.specs.Cube.{free}
 use Rattle.model.specs.Fields.{unequal}
 use Rattle.format.specs.Limits.{widest_cube, most_cuts}

@@ -3,7 +3,6 @@ use Prim.Native.Nat.{◌+◌, ◌-◌, ◌≤◌}
 use native.Mathlib.Omega.{arith}
 use mathlib.Core.Path.{◌≡◌, refl, sym, ap, ◌∙◌}
 use lib.ListN.{length, take, length-take}
-use borrow.Author.Rules.{rules}
 use Rattle.model.specs.Fields.{prefix_cube}
 use Rattle.answer.specs.Answer.{wrote}
 use Rattle.format.specs.Rows.{outcome}

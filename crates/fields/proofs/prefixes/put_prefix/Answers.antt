@@ -1,10 +1,9 @@
-use Prim.Native.Nat.{◌+◌, ◌-◌, ◌*◌, ◌/◌, ◌%◌, ◌^◌, ◌≤◌, ◌<◌}
+use Prim.Native.Nat.{◌+◌, ◌-◌, ◌*◌, ◌/◌, ◌%◌, ◌^◌, ◌<◌}
 use native.Mathlib.Omega.{arith}
 use mathlib.Core.Path.{◌≡◌, refl, sym, ap, ◌∙◌}
 use lib.ListN.{length, get_or, set}
-use borrow.Author.Rules.{rules}
 use Rattle.model.specs.Cube.{Code}
-use Rattle.model.specs.Fields.{bit_code, prefix_cube}
+use Rattle.model.specs.Fields.{bit_code}
 use Rattle.format.specs.Bytes.{bits, codes}
 use Rattle.format.proofs.Heading.{length-bits, bit_at}
 use Rattle.format.proofs.Coding.{codes-free}

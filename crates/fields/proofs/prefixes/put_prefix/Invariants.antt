@@ -1,15 +1,9 @@
 -- `fields::prefixes::put_prefix` meets its contract: each position passed is fixed to its bit.
-use Prim.Native.Nat.{◌+◌, ◌-◌, ◌*◌, ◌/◌, ◌%◌, ◌^◌, ◌≤◌, ◌<◌}
-use native.Mathlib.Omega.{arith}
-use mathlib.Core.Path.{◌≡◌, refl, sym, ap, ◌∙◌}
-use lib.ListN.{length, get_or, set}
-use borrow.Author.Rules.{rules}
-use Rattle.model.specs.Cube.{Code}
-use Rattle.model.specs.Fields.{bit_code, prefix_cube}
+use Prim.Native.Nat.{◌-◌, ◌*◌, ◌≤◌}
+use mathlib.Core.Path.{◌≡◌}
+use lib.ListN.{length}
+use Rattle.model.specs.Fields.{prefix_cube}
 use Rattle.format.specs.Bytes.{bits, codes}
-use Rattle.format.proofs.Heading.{length-bits, bit_at}
-use Rattle.format.proofs.Coding.{codes-free}
-use Rattle.fields.proofs.Fielding.{prefix-none, prefix-more, bit-code}
 use Rattle.fields.proofs.prefixes.put_prefix.Given as goal
 
 abbrev pub invariant-loop-i : goal.invariant-loop-i

@@ -1,13 +1,10 @@
-use Prim.Native.Nat.{◌-◌}
 use native.Mathlib.Omega.{arith}
 use mathlib.Core.Bool.{false}
 use mathlib.Core.Path.{◌≡◌, sym, ◌∙◌}
-use lib.ListN.{length}
-use borrow.Author.Rules.{rules}
 use Rattle.format.proofs.Recording.{Record, record_of}
 use Rattle.format.specs.Records.{next_at, width_of, difference_fault}
 use Rattle.region.proofs.Fronts.{front-base, front-next, front-stands}
-use Rattle.region.proofs.Reading.{Asking, asking, asked-turned, asked-width, asked-refused, asked-ended}
+use Rattle.region.proofs.Reading.{asking, asked-turned, asked-width, asked-refused, asked-ended}
 use Rattle.region.proofs.asking.ask_file.Goals as goal
 
 pub returns-then-wrong-ne0 : goal.returns-then-wrong-ne0

@@ -1,5 +1,4 @@
 -- `region::bytes::byte_at` meets its contract.
-use borrow.Author.Rules.{rules}
 use native.Mathlib.Omega.{arith}
 use mathlib.Core.Path.{refl, sym}
 use lib.ListN.{get_or-eq_default}

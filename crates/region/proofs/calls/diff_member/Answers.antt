@@ -2,7 +2,6 @@
 use mathlib.Core.Bool.{true}
 use mathlib.Core.List.{[], ◌∷◌}
 use mathlib.Core.Path.{ap, ◌∙◌}
-use borrow.Author.Rules.{rules}
 use Rattle.model.specs.Difference.{first_holder}
 use Rattle.format.specs.Rows.{last}
 use Rattle.format.specs.Bytes.{read_header}

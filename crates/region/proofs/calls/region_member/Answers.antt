@@ -1,6 +1,5 @@
 -- `region::calls::region_member` meets its contract.
 use mathlib.Core.Path.{sym, ap, ◌∙◌}
-use borrow.Author.Rules.{rules}
 use Rattle.format.proofs.Lending.{file-refused}
 use Rattle.format.specs.Told.{Told}
 use Rattle.format.specs.Calls.{region_member}

@@ -2,7 +2,6 @@
 use Prim.Native.Nat.{ℕ}
 use mathlib.Core.Path.{◌≡◌, ap, ◌∙◌}
 use mathlib.Core.List.{List}
-use borrow.Author.Rules.{rules}
 use Rattle.format.specs.Rows.{last, outcome}
 use Rattle.answer.specs.declared.Answer.{Answer}
 use Rattle.format.specs.Told.{Told, bits_tests, lent_header, belonging}

@@ -1,13 +1,10 @@
-use Prim.Native.Nat.{◌-◌}
 use native.Mathlib.Omega.{arith}
 use mathlib.Core.Bool.{false}
 use mathlib.Core.Path.{◌≡◌, sym, ◌∙◌}
-use lib.ListN.{length}
-use borrow.Author.Rules.{rules}
 use Rattle.format.proofs.Recording.{Record, record_of}
 use Rattle.format.specs.Records.{next_at, width_of, difference_fault}
 use Rattle.region.proofs.Fronts.{front-next}
-use Rattle.region.proofs.Reading.{Reached, begun, turned, width-refused, record-refused, ended}
+use Rattle.region.proofs.Reading.{begun, turned, width-refused, record-refused, ended}
 use Rattle.region.proofs.files.check_file.Goals as goal
 
 -- where a turn goes on, the record here is accepted

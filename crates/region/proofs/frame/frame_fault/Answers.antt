@@ -1,6 +1,5 @@
 -- `region::frame::frame_fault` meets its contract.
 use native.Mathlib.Omega.{arith}
-use borrow.Author.Rules.{rules}
 use Rattle.format.proofs.Reached.{reached}
 use Rattle.region.proofs.frame.frame_fault.Goals as goal
 

@@ -1,7 +1,6 @@
 -- `region::front::front_at` meets its contract.
 use native.Mathlib.Omega.{arith}
 use mathlib.Core.Path.{refl}
-use borrow.Author.Rules.{rules}
 use Rattle.region.proofs.Fronts.{front-here, front-end, tail}
 use Rattle.region.proofs.front.front_at.Goals as goal
 

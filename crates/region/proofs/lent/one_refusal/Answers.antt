@@ -1,6 +1,5 @@
 -- `region::lent::one_refusal` meets its contract.
 use mathlib.Core.Path.{◌∙◌}
-use borrow.Author.Rules.{rules}
 use Rattle.format.proofs.Lending.{width-refused, width-passed}
 use Rattle.region.proofs.lent.one_refusal.Goals as goal
 

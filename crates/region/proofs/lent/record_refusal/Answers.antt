@@ -2,7 +2,6 @@
 use Prim.Native.Nat.{ℕ}
 use native.Mathlib.Omega.{arith}
 use mathlib.Core.Path.{ap, ◌∙◌}
-use borrow.Author.Rules.{rules}
 use Rattle.answer.specs.Answer.{fault}
 use Rattle.format.proofs.Reached.{reached}
 use Rattle.region.proofs.lent.record_refusal.Goals as goal

@@ -1,6 +1,5 @@
 -- `region::lent::two_refusal` meets its contract.
 use mathlib.Core.Path.{◌∙◌}
-use borrow.Author.Rules.{rules}
 use Rattle.format.proofs.Lending.{one-refused, one-passed}
 use Rattle.region.proofs.lent.two_refusal.Goals as goal
 

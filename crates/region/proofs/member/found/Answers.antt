@@ -1,7 +1,6 @@
 -- `region::member::found` meets its contract.
 use mathlib.Core.Path.{◌≡◌, sym, ◌∙◌}
 use mathlib.Core.Bool.{false}
-use borrow.Author.Rules.{rules}
 use Rattle.model.specs.Difference.{is_held}
 use Rattle.region.specs.Asked.{holder_of}
 use Rattle.region.proofs.Held.{held-before, held-now, held_none}

@@ -1,11 +1,9 @@
 use Prim.Native.Nat.{◌+◌, ◌-◌, ◌*◌, ◌≤◌}
 use native.Mathlib.Omega.{arith}
-use mathlib.Core.Path.{◌≡◌, refl, ◌∙◌}
+use mathlib.Core.Path.{refl, ◌∙◌}
 use lib.ListN.{length}
-use borrow.Author.Rules.{rules}
 use Rattle.region.proofs.Cubing.{room}
 use Rattle.region.proofs.Held.{any_none, any_here, any_next}
-use Rattle.region.specs.Asked.{any_in}
 use Rattle.region.proofs.member.in_any.Goals as goal
 
 pub loop-left-init : goal.loop-left-init

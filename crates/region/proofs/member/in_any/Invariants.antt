@@ -1,11 +1,7 @@
 -- `region::member::in_any` meets its contract. The loop's invariant: the cubes left decide.
-use Prim.Native.Nat.{◌+◌, ◌-◌, ◌*◌, ◌≤◌}
-use native.Mathlib.Omega.{arith}
-use mathlib.Core.Path.{◌≡◌, refl, ◌∙◌}
+use Prim.Native.Nat.{◌+◌, ◌*◌, ◌≤◌}
+use mathlib.Core.Path.{◌≡◌}
 use lib.ListN.{length}
-use borrow.Author.Rules.{rules}
-use Rattle.region.proofs.Cubing.{room}
-use Rattle.region.proofs.Held.{any_none, any_here, any_next}
 use Rattle.region.specs.Asked.{any_in}
 use Rattle.region.proofs.member.in_any.Given as goal
 

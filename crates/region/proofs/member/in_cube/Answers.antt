@@ -1,5 +1,4 @@
 -- `region::member::in_cube` meets its contract.
-use borrow.Author.Rules.{rules}
 use native.Mathlib.Nat.{sub-zero, add-sub_cancel_left}
 use Rattle.region.specs.Asked.{cube_in}
 use Rattle.region.proofs.member.in_cube.Goals as goal

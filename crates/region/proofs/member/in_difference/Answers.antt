@@ -1,5 +1,4 @@
 -- `region::member::in_difference` meets its contract.
-use borrow.Author.Rules.{rules}
 use Rattle.region.proofs.Held.{record-short, record-in, record-out}
 use Rattle.region.proofs.member.in_difference.Goals as goal
 

@@ -1,9 +1,6 @@
-use mathlib.Core.Path.{◌≡◌, refl, sym, ◌∙◌}
-use lib.ListN.{length, get_or}
-use borrow.Author.Rules.{rules}
-use Rattle.format.specs.Records.{first_at}
+use mathlib.Core.Path.{refl, sym, ◌∙◌}
+use lib.ListN.{length}
 use Rattle.region.proofs.Onward.{seek-end, seek-here, seek-turn}
-use Rattle.region.specs.Ahead.{ahead}
 use Rattle.region.proofs.offset.seek.Goals as goal
 
 pub loop-at-init : goal.loop-at-init

@@ -1,9 +1,7 @@
 -- `region::offset::seek` meets its contract. The loop's invariant: the offset sought is `left` records on.
-use mathlib.Core.Path.{◌≡◌, refl, sym, ◌∙◌}
+use mathlib.Core.Path.{◌≡◌}
 use lib.ListN.{length, get_or}
-use borrow.Author.Rules.{rules}
 use Rattle.format.specs.Records.{first_at}
-use Rattle.region.proofs.Onward.{seek-end, seek-here, seek-turn}
 use Rattle.region.specs.Ahead.{ahead}
 use Rattle.region.proofs.offset.seek.Given as goal
 

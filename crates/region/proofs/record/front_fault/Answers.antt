@@ -3,7 +3,6 @@ use Prim.Native.Nat.{◌*◌, ◌≤◌, ◌+◌}
 use native.Mathlib.Omega.{arith}
 use mathlib.Core.Path.{◌≡◌, ◌∙◌}
 use lib.ListN.{length}
-use borrow.Author.Rules.{rules}
 use Rattle.format.specs.Bytes.{cube_len}
 use Rattle.format.specs.Records.{front_len, count_at, base_at, cubes_fault, number_rows, difference_fault}
 use Rattle.format.specs.Rows.{last, outcome}

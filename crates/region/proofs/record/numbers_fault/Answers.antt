@@ -3,7 +3,6 @@ use Prim.Native.Nat.{◌+◌, ◌*◌, ◌≤◌}
 use native.Mathlib.Omega.{arith}
 use native.Mathlib.Nat.{mul-le-mul}
 use mathlib.Core.Path.{◌≡◌, refl}
-use borrow.Author.Rules.{rules}
 use Rattle.format.specs.Records.{frame_rows, number_rows, count_at}
 use Rattle.format.specs.Bytes.{cube_len}
 use Rattle.format.specs.Limits.{most_cuts, difference_kind}

@@ -2,7 +2,6 @@
 use mathlib.Core.Bool.{false}
 use mathlib.Core.Path.{◌≡◌, sym, ◌∙◌}
 use lib.ListN.{length}
-use borrow.Author.Rules.{rules}
 use Rattle.format.proofs.Reached.{reached}
 use Rattle.format.proofs.Recording.{record_of}
 use Rattle.format.specs.Calls.{start_of, read_on}

@@ -1,6 +1,5 @@
 -- `region::steps::start_of` meets its contract.
 use borrow.Author.Tests.{eq-eqb, ne_eqb}
-use borrow.Author.Rules.{rules}
 use Rattle.region.proofs.steps.start_of.Goals as goal
 
 pub returns-then-place-eq0 : goal.returns-then-place-eq0

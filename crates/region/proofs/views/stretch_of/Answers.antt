@@ -3,7 +3,6 @@ use Prim.Native.Nat.{◌+◌, ◌*◌, ◌≤◌}
 use native.Mathlib.Omega.{arith}
 use mathlib.Core.Path.{◌≡◌, ap, ◌∙◌}
 use lib.ListN.{length}
-use borrow.Author.Rules.{rules}
 use Rattle.format.specs.Records.{width_of}
 use Rattle.format.specs.Bytes.{cube_len}
 use Rattle.region.proofs.Viewed.{view-fault, view-none, view-beyond, view-cube, view-room}

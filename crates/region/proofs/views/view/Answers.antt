@@ -1,5 +1,4 @@
 -- `region::views::view` meets its contract.
-use borrow.Author.Rules.{rules}
 use native.Mathlib.Nat.{add-sub_cancel_left}
 use native.Mathlib.Omega.{arith}
 use mathlib.Core.Path.{refl, ap}

@@ -1,5 +1,4 @@
 -- `region::views::view_number` meets its contract.
-use borrow.Author.Rules.{rules}
 use mathlib.Core.Path.{ap}
 use Rattle.format.specs.Calls.{Viewed}
 use Rattle.region.proofs.views.view_number.Goals as goal

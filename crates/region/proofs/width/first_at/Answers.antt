@@ -1,7 +1,6 @@
 -- `region::width::first_at` meets its contract.
 use Prim.Native.Nat.{ℕ, ◌+◌}
 use mathlib.Core.Path.{ap}
-use borrow.Author.Rules.{rules}
 use Rattle.format.specs.Records.{first_at}
 use Rattle.region.proofs.width.first_at.Goals as goal
 

@@ -1,6 +1,5 @@
 -- `region::width::width_fault` meets its contract.
 use native.Mathlib.Omega.{arith}
-use borrow.Author.Rules.{rules}
 use Rattle.format.specs.Records.{frame_rows, width_rows, width_fault}
 use Rattle.format.specs.Limits.{width_kind}
 use Rattle.format.proofs.Lending.{frame_refused, frame-clean}

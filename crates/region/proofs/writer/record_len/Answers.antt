@@ -1,7 +1,6 @@
 -- `region::writer::record_len` meets its contract.
 use Prim.Native.Nat.{◌+◌, ◌*◌, ◌≤◌}
 use native.Mathlib.Omega.{arith}
-use borrow.Author.Rules.{rules}
 use Rattle.format.specs.Records.{front_len}
 use Rattle.format.specs.Limits.{widest_cube, most_cuts}
 use Rattle.format.proofs.Reached.{reached}

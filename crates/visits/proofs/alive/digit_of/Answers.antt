@@ -3,7 +3,6 @@ use native.Mathlib.Nat.{one-mul}
 use mathlib.Core.Path.{◌∙◌}
 use lib.Pow.{shl_exact}
 use native.Mathlib.Omega.{arith}
-use borrow.Author.Rules.{rules}
 use Rattle.visits.proofs.alive.digit_of.Goals as goal
 
 pub returns : goal.returns

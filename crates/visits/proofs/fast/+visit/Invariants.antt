@@ -1,31 +1,14 @@
 -- `visits::fast::+visit` meets its contract, as its own cycle of calls. A turn of the loop is that of the plain visit; what is new is that the cuts met
 -- are digits of a word, and that a child's walk may be remembered.
-use Rattle.visits.specs.Settle.{Said, settle, left_from}
-use Rattle.visits.specs.declared.allowance.Allowance.{Allowance}
-use borrow.Author.Rules.{rules}
-use Prim.Native.Nat.{ℕ, suc, ◌+◌, ◌-◌, ◌/◌, ◌^◌, ◌≤◌, ◌<◌}
-use native.Mathlib.Nat.{pos_of_ne-zero}
-use native.Mathlib.Omega.{arith}
-use mathlib.Core.Path.{◌≡◌, refl, sym, ap, ◌∙◌}
-use mathlib.Core.Logic.{⊎_elim}
-use mathlib.Core.List.{[]}
-use lib.ListN.{length, get_or, set, length-set}
-use lib.Seq.{set-set}
-use lib.Pow.{pow_mono}
+use Rattle.visits.specs.Settle.{left_from}
+use Prim.Native.Nat.{◌+◌, ◌-◌, ◌^◌, ◌<◌}
+use mathlib.Core.Path.{◌≡◌}
+use lib.ListN.{length}
 use Rattle.model.specs.Walk.{visit as walked}
-use Rattle.model.proofs.Walking.{walk-positive}
-use Rattle.format.specs.Bytes.{code_of}
 use Rattle.visits.specs.Opening.{first_open}
 use Rattle.visits.specs.Words.{cube_of_words, row_cube, cuts_below}
 use Rattle.visits.specs.Alive.{Alive, Against}
-use Rattle.visits.specs.Memory.{Finds, Memory}
-use Rattle.visits.specs.Replies.{tells}
-use Rattle.visits.proofs.Settle.{settle-none, settle-keeps}
-use Rattle.visits.proofs.Turn.{turn_end, turn-covered, turn-stop, is-covered, not_covered}
-use Rattle.visits.proofs.WordCubes.{words-length}
-use Rattle.visits.proofs.Meeting.{alive-fewer, alive-meets, alive-top, alive-passed, alive-none, against-fewer}
-use Rattle.visits.proofs.Paying.{covered-finds}
-use Rattle.visits.proofs.Narrowing.{Opened, opened, took-cube, took-alive, later_first, begun, survives-stops, tells-covered}
+use Rattle.visits.specs.Memory.{Memory}
 use Rattle.visits.proofs.fast.+visit.Given as goal
 
 abbrev pub invariant-loop-i : goal.invariant-loop-i

@@ -5,7 +5,6 @@ use lib.ListN.{drop, length-drop}
 use mathlib.Core.Path.{◌∙◌, sym}
 use native.Mathlib.Omega.{arith}
 use Prim.Native.Nat.{◌+◌}
-use borrow.Author.Rules.{rules}
 use Rattle.visits.proofs.load.byte.Goals as goal
 
 pub overflow_cast-result : goal.overflow_cast-result

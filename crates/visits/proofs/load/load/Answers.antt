@@ -3,12 +3,11 @@ use lib.ListN.{get_or-replicate}
 use mathlib.Core.Logic.{⊎_elim}
 use Rattle.visits.proofs.Carrying.{holds-free, padded-long, padded-codes, words-hold, word_more}
 use lib.Seq.{get_or-set_other}
-use Rattle.visits.specs.Loading.{padded, HoldsBytes}
-use lib.ListN.{length, get_or, drop, length-set, length-drop}
+use Rattle.visits.specs.Loading.{padded}
+use lib.ListN.{length, drop, length-set, length-drop}
 use mathlib.Core.Path.{◌≡◌, refl, ◌∙◌}
 use native.Mathlib.Omega.{arith}
-use Prim.Native.Nat.{ℕ, ◌+◌, ◌-◌, ◌*◌, ◌≤◌, ◌<◌}
-use borrow.Author.Rules.{rules}
+use Prim.Native.Nat.{ℕ, ◌*◌, ◌≤◌, ◌<◌}
 use Rattle.cube.specs.Whole.{whole_at}
 use Rattle.visits.proofs.load.load.Goals as goal
 

@@ -1,17 +1,9 @@
 -- `visits::load::load` meets its contract. The loop's invariant: the first w words hold their bytes, and the
 -- others are all free places.
-use Rattle.visits.proofs.Digits.{below_or}
-use lib.ListN.{get_or-replicate}
-use mathlib.Core.Logic.{⊎_elim}
-use Rattle.visits.proofs.Carrying.{holds-free, padded-long, padded-codes, words-hold, word_more}
-use lib.Seq.{get_or-set_other}
 use Rattle.visits.specs.Loading.{padded, HoldsBytes}
-use lib.ListN.{length, get_or, drop, length-set, length-drop}
-use mathlib.Core.Path.{◌≡◌, refl, ◌∙◌}
-use native.Mathlib.Omega.{arith}
+use lib.ListN.{length, get_or, drop}
+use mathlib.Core.Path.{◌≡◌}
 use Prim.Native.Nat.{ℕ, ◌+◌, ◌-◌, ◌*◌, ◌≤◌, ◌<◌}
-use borrow.Author.Rules.{rules}
-use Rattle.cube.specs.Whole.{whole_at}
 use Rattle.visits.proofs.load.load.Given as goal
 
 abbrev pub invariant-loop-w : goal.invariant-loop-w

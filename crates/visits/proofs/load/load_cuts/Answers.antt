@@ -1,11 +1,8 @@
 use native.Mathlib.Nat.{sub-zero}
 use Rattle.visits.proofs.Carrying.{Down, down, row_more}
-use Rattle.visits.specs.Loading.{Loaded}
 use lib.ListN.{length, length-set}
-use mathlib.Core.Path.{◌≡◌, refl, ◌∙◌}
+use mathlib.Core.Path.{refl, ◌∙◌}
 use native.Mathlib.Omega.{arith}
-use Prim.Native.Nat.{◌+◌, ◌-◌, ◌*◌, ◌≤◌}
-use borrow.Author.Rules.{rules}
 use Rattle.visits.proofs.load.load_cuts.Goals as goal
 
 pub loop-m-init : goal.loop-m-init

@@ -1,12 +1,8 @@
 -- `visits::load::load_cuts` meets its contract. The loop's invariant: the last m cuts stand in the first m rows.
-use native.Mathlib.Nat.{sub-zero}
-use Rattle.visits.proofs.Carrying.{Down, down, row_more}
 use Rattle.visits.specs.Loading.{Loaded}
-use lib.ListN.{length, length-set}
-use mathlib.Core.Path.{◌≡◌, refl, ◌∙◌}
-use native.Mathlib.Omega.{arith}
+use lib.ListN.{length}
+use mathlib.Core.Path.{◌≡◌}
 use Prim.Native.Nat.{◌+◌, ◌-◌, ◌*◌, ◌≤◌}
-use borrow.Author.Rules.{rules}
 use Rattle.visits.proofs.load.load_cuts.Given as goal
 
 abbrev pub invariant-loop-m : goal.invariant-loop-m

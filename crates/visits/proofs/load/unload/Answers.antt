@@ -2,11 +2,10 @@ use Rattle.visits.proofs.Carrying.{byte-out, unloaded}
 use lib.Bits.{and_le_r}
 use lib.ListN.{length-set}
 use mathlib.Core.Path.{◌∙◌}
-use lib.ListN.{length, get_or}
-use mathlib.Core.Path.{◌≡◌, refl}
+use lib.ListN.{get_or}
+use mathlib.Core.Path.{refl}
 use native.Mathlib.Omega.{arith}
-use Prim.Native.Nat.{ℕ, ◌-◌, ◌*◌, ◌/◌, ◌%◌, ◌≤◌, ◌<◌, ◌^◌}
-use borrow.Author.Rules.{rules}
+use Prim.Native.Nat.{◌-◌, ◌*◌, ◌/◌, ◌%◌, ◌^◌}
 use Rattle.visits.proofs.load.unload.Goals as goal
 
 pub loop-b-init : goal.loop-b-init

@@ -1,13 +1,7 @@
 -- `visits::load::unload` meets its contract. The loop's invariant: the first b bytes are taken out.
-use Rattle.visits.proofs.Carrying.{byte-out, unloaded}
-use lib.Bits.{and_le_r}
-use lib.ListN.{length-set}
-use mathlib.Core.Path.{◌∙◌}
 use lib.ListN.{length, get_or}
-use mathlib.Core.Path.{◌≡◌, refl}
-use native.Mathlib.Omega.{arith}
+use mathlib.Core.Path.{◌≡◌}
 use Prim.Native.Nat.{ℕ, ◌-◌, ◌*◌, ◌/◌, ◌%◌, ◌≤◌, ◌<◌, ◌^◌}
-use borrow.Author.Rules.{rules}
 use Rattle.visits.proofs.load.unload.Given as goal
 
 abbrev pub invariant-loop-b : goal.invariant-loop-b

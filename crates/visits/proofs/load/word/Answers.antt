@@ -4,8 +4,7 @@ use Rattle.visits.specs.Loading.{padded, HoldsBytes}
 use lib.ListN.{drop}
 use mathlib.Core.Path.{◌≡◌, subst}
 use native.Mathlib.Omega.{arith}
-use Prim.Native.Nat.{◌-◌, ◌*◌, ◌≤◌}
-use borrow.Author.Rules.{rules}
+use Prim.Native.Nat.{◌*◌, ◌≤◌}
 use Rattle.visits.proofs.load.word.Goals as goal
 
 pub loop-j-init : goal.loop-j-init

@@ -1,12 +1,7 @@
 -- `visits::load::word` meets its contract. The loop's invariant: x holds the first j of the eight bytes.
-use lib.Pow.{pow_mono}
-use Rattle.visits.proofs.Carrying.{holds-none, holds_more}
 use Rattle.visits.specs.Loading.{padded, HoldsBytes}
 use lib.ListN.{drop}
-use mathlib.Core.Path.{◌≡◌, subst}
-use native.Mathlib.Omega.{arith}
-use Prim.Native.Nat.{◌-◌, ◌*◌, ◌≤◌}
-use borrow.Author.Rules.{rules}
+use Prim.Native.Nat.{◌-◌, ◌≤◌}
 use Rattle.visits.proofs.load.word.Given as goal
 
 abbrev pub invariant-loop-j : goal.invariant-loop-j

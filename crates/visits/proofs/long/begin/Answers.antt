@@ -4,7 +4,6 @@ use Rattle.visits.specs.Words.{cube_of_words}
 use Rattle.visits.specs.Settle.{settle}
 use mathlib.Core.Path.{sym, ap, ◌∙◌}
 use native.Mathlib.Omega.{arith}
-use borrow.Author.Rules.{rules}
 use Rattle.visits.proofs.long.begin.Goals as goal
 
 pub visit-requires : goal.visit-requires

@@ -26,18 +26,18 @@ overflow_sub-left c = omega (arith, c.digits-n.ensures)
 
 pub overflow_mul-left : goal.overflow_mul-left
 overflow_mul-left c =
-    let fit : let n = c.digits-n.result in c.args.at + (c.args.left - n) * c.args.q + n * c.args.q ≤ length c.args.s.now =    last_fit c.args.at c.args.left _ c.args.q (length c.args.s.now) (omega (arith, c.digits-n.ensures)) c.requires.1 in
+    let fit : let n = c.digits-n.result in c.args.at + (c.args.left - n) * c.args.q + n * c.args.q ≤ length c.args.s.now = last_fit c.args.at c.args.left _ c.args.q (length c.args.s.now) (omega (arith, c.digits-n.ensures)) c.requires.1 in
     omega (arith, fit, c)
 
 pub overflow_add-at : goal.overflow_add-at
 overflow_add-at c =
-    let fit : let n = c.digits-n.result in c.args.at + (c.args.left - n) * c.args.q + n * c.args.q ≤ length c.args.s.now =    last_fit c.args.at c.args.left _ c.args.q (length c.args.s.now) (omega (arith, c.digits-n.ensures)) c.requires.1 in
+    let fit : let n = c.digits-n.result in c.args.at + (c.args.left - n) * c.args.q + n * c.args.q ≤ length c.args.s.now = last_fit c.args.at c.args.left _ c.args.q (length c.args.s.now) (omega (arith, c.digits-n.ensures)) c.requires.1 in
     omega (arith, fit, c)
 
 pub alive_of-alive-requires : goal.alive_of-alive-requires
 alive_of-alive-requires c =
     let long : c.args.q ≤ length c.args.piece = let e : length c.args.piece ≡ 80 = search rules in omega (arith, e, c.requires.0) in
-    let fit : let n = c.digits-n.result in c.args.at + (c.args.left - n) * c.args.q + n * c.args.q ≤ length c.args.s.now =    last_fit c.args.at c.args.left _ c.args.q (length c.args.s.now) (omega (arith, c.digits-n.ensures)) c.requires.1 in
+    let fit : let n = c.digits-n.result in c.args.at + (c.args.left - n) * c.args.q + n * c.args.q ≤ length c.args.s.now = last_fit c.args.at c.args.left _ c.args.q (length c.args.s.now) (omega (arith, c.digits-n.ensures)) c.requires.1 in
     (omega (arith, c.digits-n.ensures), rw (front_length c.args.q c.args.piece long) fit)
 
 pub first_meets-first-requires : goal.first_meets-first-requires
@@ -50,8 +50,8 @@ unfolding whole_at
 begin-requires c =
     let long : c.args.q ≤ length c.args.piece = let e : length c.args.piece ≡ 80 = search rules in omega (arith, e, c.requires.0) in
     let base : cube_of_words c.load.result ≡ pad (320 - 4 * c.args.q) (cube_of c.args.q c.args.piece) = c.load.ensures in
-    let alive : let g = c.args in Met g.q g.s.now (g.at + (g.left - c.digits-n.result) * g.q) c.digits-n.result (cube_of g.q g.piece) c.digits-n.result c.alive_of-alive.result =    rw (front_length c.args.q c.args.piece long, front-cube c.args.q c.args.piece) at c.alive_of-alive.ensures in
-    let first : let g = c.args in First g.left (shares (cube_of g.q g.piece) (whole_at g.q g.s.now g.at)) c.first_meets-first.result =    rw (front_length c.args.q c.args.piece long, front-cube c.args.q c.args.piece) at c.first_meets-first.ensures in
+    let alive : let g = c.args in Met g.q g.s.now (g.at + (g.left - c.digits-n.result) * g.q) c.digits-n.result (cube_of g.q g.piece) c.digits-n.result c.alive_of-alive.result = rw (front_length c.args.q c.args.piece long, front-cube c.args.q c.args.piece) at c.alive_of-alive.ensures in
+    let first : let g = c.args in First g.left (shares (cube_of g.q g.piece) (whole_at g.q g.s.now g.at)) c.first_meets-first.result = rw (front_length c.args.q c.args.piece long, front-cube c.args.q c.args.piece) at c.first_meets-first.ensures in
     let g = c.args in
     let p = c.requires in
     let n = c.digits-n.result in
@@ -70,7 +70,7 @@ unfolding whole_at
 returns c =
     let long : c.args.q ≤ length c.args.piece = let e : length c.args.piece ≡ 80 = search rules in omega (arith, e, c.requires.0) in
     let base : cube_of_words c.load.result ≡ pad (320 - 4 * c.args.q) (cube_of c.args.q c.args.piece) = c.load.ensures in
-    let first : let g = c.args in First g.left (shares (cube_of g.q g.piece) (whole_at g.q g.s.now g.at)) c.first_meets-first.result =    rw (front_length c.args.q c.args.piece long, front-cube c.args.q c.args.piece) at c.first_meets-first.ensures in
+    let first : let g = c.args in First g.left (shares (cube_of g.q g.piece) (whole_at g.q g.s.now g.at)) c.first_meets-first.result = rw (front_length c.args.q c.args.piece long, front-cube c.args.q c.args.piece) at c.first_meets-first.ensures in
     let g = c.args in
     let p = c.requires in
     let lp = cube-length g.q g.piece long in

@@ -1,13 +1,7 @@
 use Rattle.visits.proofs.Meeting.{alive-top}
 use Rattle.visits.proofs.Slots.{common-turn, common-end}
-use Rattle.visits.specs.Memory.{Lies}
-use Rattle.visits.specs.Alive.{digit}
-use Rattle.visits.specs.Words.{row_cube}
-use lib.ListN.{length}
-use mathlib.Core.Logic.{◌⊎◌, inl}
-use mathlib.Core.Path.{◌≡◌}
+use mathlib.Core.Logic.{inl}
 use native.Mathlib.Omega.{arith}
-use Prim.Native.Nat.{ℕ, ◌<◌, ◌^◌}
 use borrow.Author.Rules.{rules}
 use Rattle.visits.proofs.memory.common.Goals as goal
 

@@ -1,16 +1,12 @@
 -- `visits::memory::common` meets its contract. The loop's invariant: m lies in each of the cuts `alive` that has no
 -- digit in x any more.
-use Rattle.visits.proofs.Meeting.{alive-top}
-use Rattle.visits.proofs.Slots.{common-turn, common-end}
 use Rattle.visits.specs.Memory.{Lies}
 use Rattle.visits.specs.Alive.{digit}
 use Rattle.visits.specs.Words.{row_cube}
 use lib.ListN.{length}
-use mathlib.Core.Logic.{◌⊎◌, inl}
+use mathlib.Core.Logic.{◌⊎◌}
 use mathlib.Core.Path.{◌≡◌}
-use native.Mathlib.Omega.{arith}
 use Prim.Native.Nat.{ℕ, ◌<◌, ◌^◌}
-use borrow.Author.Rules.{rules}
 use Rattle.visits.proofs.memory.common.Given as goal
 
 abbrev pub invariant-loop-x : goal.invariant-loop-x

@@ -1,10 +1,7 @@
 use Rattle.visits.proofs.Slots.{look-turn, recalls-right}
-use lib.Bits.{bit_or}
-use lib.ListN.{get_or, length}
+use lib.ListN.{get_or}
 use mathlib.Core.List.{[]}
-use mathlib.Core.Path.{◌≡◌}
 use native.Mathlib.Omega.{arith}
-use Prim.Native.Nat.{ℕ, ◌+◌, ◌-◌, ◌≤◌, ◌<◌}
 use borrow.Author.Rules.{rules}
 use Rattle.visits.proofs.memory.look.Goals as goal
 

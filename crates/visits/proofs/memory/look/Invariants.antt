@@ -1,13 +1,10 @@
 -- `visits::memory::look` meets its contract. The loop's invariant: where `differ` is 0, the first w words of the
 -- piece are like the slot's.
-use Rattle.visits.proofs.Slots.{look-turn, recalls-right}
 use lib.Bits.{bit_or}
 use lib.ListN.{get_or, length}
 use mathlib.Core.List.{[]}
 use mathlib.Core.Path.{◌≡◌}
-use native.Mathlib.Omega.{arith}
 use Prim.Native.Nat.{ℕ, ◌+◌, ◌-◌, ◌≤◌, ◌<◌}
-use borrow.Author.Rules.{rules}
 use Rattle.visits.proofs.memory.look.Given as goal
 
 abbrev pub invariant-loop-w : goal.invariant-loop-w

@@ -1,10 +1,6 @@
 use Rattle.visits.proofs.Slots.{met-turn}
-use lib.Bits.{bit_and}
-use lib.ListN.{get_or}
-use mathlib.Core.Path.{◌≡◌, refl}
+use mathlib.Core.Path.{refl}
 use native.Mathlib.Omega.{arith}
-use Prim.Native.Nat.{ℕ, ◌-◌, ◌≤◌, ◌<◌}
-use borrow.Author.Rules.{rules}
 use Rattle.visits.proofs.memory.meet.Goals as goal
 
 pub loop-w-init : goal.loop-w-init

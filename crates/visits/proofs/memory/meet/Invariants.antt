@@ -1,11 +1,8 @@
 -- `visits::memory::meet` meets its contract. The loop's invariant: the first w words are met, the others as they were.
-use Rattle.visits.proofs.Slots.{met-turn}
 use lib.Bits.{bit_and}
 use lib.ListN.{get_or}
-use mathlib.Core.Path.{◌≡◌, refl}
-use native.Mathlib.Omega.{arith}
+use mathlib.Core.Path.{◌≡◌}
 use Prim.Native.Nat.{ℕ, ◌-◌, ◌≤◌, ◌<◌}
-use borrow.Author.Rules.{rules}
 use Rattle.visits.proofs.memory.meet.Given as goal
 
 abbrev pub invariant-loop-w : goal.invariant-loop-w

@@ -1,8 +1,6 @@
 use Rattle.visits.proofs.Slots.{Filled, filled-turn, slot-right}
 use mathlib.Core.Path.{◌≡◌, refl, subst}
 use native.Mathlib.Omega.{arith}
-use Prim.Native.Nat.{◌-◌, ◌≤◌}
-use borrow.Author.Rules.{rules}
 use Rattle.visits.proofs.memory.slot.Goals as goal
 
 pub loop-w-init : goal.loop-w-init

@@ -1,9 +1,6 @@
 -- `visits::memory::slot` meets its contract. The loop's invariant: the first w words of both rows are filled in.
-use Rattle.visits.proofs.Slots.{Filled, filled-turn, slot-right}
-use mathlib.Core.Path.{◌≡◌, refl, subst}
-use native.Mathlib.Omega.{arith}
+use Rattle.visits.proofs.Slots.{Filled}
 use Prim.Native.Nat.{◌-◌, ◌≤◌}
-use borrow.Author.Rules.{rules}
 use Rattle.visits.proofs.memory.slot.Given as goal
 
 abbrev pub invariant-loop-w : goal.invariant-loop-w

@@ -1,13 +1,9 @@
-use Prim.Native.Nat.{◌*◌, ◌-◌, ◌≤◌}
 use native.Mathlib.Omega.{arith}
-use mathlib.Core.Path.{◌≡◌, sym, ◌∙◌}
-use lib.ListN.{length}
+use mathlib.Core.Path.{sym, ◌∙◌}
 use Rattle.format.specs.Bytes.{codes}
 use Rattle.format.proofs.Coding.{length-codes}
-use Rattle.visits.specs.Opening.{first_open}
 use Rattle.visits.proofs.Openings.{first-most}
 use Rattle.visits.proofs.Marks.{byte-opens, byte-passed, bytes-ended}
-use borrow.Author.Rules.{rules}
 use Rattle.visits.proofs.opening.next_open.Goals as goal
 
 pub loop-b-init : goal.loop-b-init

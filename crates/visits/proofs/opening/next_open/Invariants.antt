@@ -1,14 +1,9 @@
 -- `visits::opening::next_open` meets its contract. The loop's invariant: no byte before b has a place that opens.
 use Prim.Native.Nat.{◌*◌, ◌-◌, ◌≤◌}
-use native.Mathlib.Omega.{arith}
-use mathlib.Core.Path.{◌≡◌, sym, ◌∙◌}
+use mathlib.Core.Path.{◌≡◌}
 use lib.ListN.{length}
 use Rattle.format.specs.Bytes.{codes}
-use Rattle.format.proofs.Coding.{length-codes}
 use Rattle.visits.specs.Opening.{first_open}
-use Rattle.visits.proofs.Openings.{first-most}
-use Rattle.visits.proofs.Marks.{byte-opens, byte-passed, bytes-ended}
-use borrow.Author.Rules.{rules}
 use Rattle.visits.proofs.opening.next_open.Given as goal
 
 abbrev pub invariant-loop-b : goal.invariant-loop-b

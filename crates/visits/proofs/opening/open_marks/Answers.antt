@@ -1,6 +1,5 @@
 -- `visits::opening::open_marks` meets its contract.
 use Rattle.visits.proofs.Marks.{and-marks}
-use borrow.Author.Rules.{rules}
 use Rattle.visits.proofs.opening.open_marks.Goals as goal
 
 pub returns : goal.returns

@@ -5,7 +5,6 @@ use Rattle.visits.specs.Replies.{survives}
 use mathlib.Core.Path.{sym}
 use native.Mathlib.Nat.{pos_of_ne-zero}
 use native.Mathlib.Omega.{arith}
-use borrow.Author.Rules.{rules}
 use Rattle.visits.proofs.reply.last.Goals as goal
 
 pub returns-then-have-eq0 : goal.returns-then-have-eq0

@@ -8,12 +8,10 @@ use Rattle.visits.specs.Loading.{Met}
 use Rattle.format.specs.Bytes.{codes}
 use lib.Pow.{pow_mono}
 use lib.ListN.{length}
-use mathlib.Core.Logic.{⊎_elim}
 use mathlib.Core.Path.{◌≡◌, refl, sym, subst, ◌∙◌}
 use native.Mathlib.Omega.{arith}
 use native.Mathlib.Nat.{sub-zero}
-use Prim.Native.Nat.{suc, ◌+◌, ◌-◌, ◌*◌, ◌≤◌}
-use borrow.Author.Rules.{rules}
+use Prim.Native.Nat.{suc, ◌≤◌}
 use Rattle.visits.proofs.table.alive_of.Goals as goal
 use Rattle.visits.proofs.table.alive_of.Goals.{then-meets, else-meets}
 

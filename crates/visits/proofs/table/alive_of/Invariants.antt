@@ -1,21 +1,10 @@
 -- `visits::table::alive_of` meets its contract. The loop's invariant: x has the digits of those of the last m
 -- cuts that the piece meets.
-use Rattle.visits.proofs.Entering.{part-row, met-more}
-use Rattle.model.specs.Cube.{shares}
-use mathlib.Core.Bool.{true, false}
-use mathlib.Core.Path.{ap}
-use Rattle.visits.proofs.Carrying.{Down, down}
-use Rattle.visits.proofs.Meeting.{pow-double}
 use Rattle.visits.specs.Loading.{Met}
 use Rattle.format.specs.Bytes.{codes}
-use lib.Pow.{pow_mono}
 use lib.ListN.{length}
-use mathlib.Core.Logic.{⊎_elim}
-use mathlib.Core.Path.{◌≡◌, refl, sym, subst, ◌∙◌}
-use native.Mathlib.Omega.{arith}
-use native.Mathlib.Nat.{sub-zero}
-use Prim.Native.Nat.{suc, ◌+◌, ◌-◌, ◌*◌, ◌≤◌}
-use borrow.Author.Rules.{rules}
+use mathlib.Core.Path.{◌≡◌}
+use Prim.Native.Nat.{◌+◌, ◌-◌, ◌*◌, ◌≤◌}
 use Rattle.visits.proofs.table.alive_of.Given as goal
 
 abbrev pub invariant-loop-m : goal.invariant-loop-m

@@ -1,17 +1,14 @@
 use Rattle.visits.proofs.Entering.{fresh, free-words, enter-fits, enter-turn, enter-end, agree-turn}
 use Rattle.visits.proofs.Narrowing.{Opened, opened, took-cube, later_first}
 use Rattle.visits.proofs.WordCubes.{words-length}
-use Rattle.visits.specs.Loading.{Entered}
 use Rattle.visits.specs.Words.{cube_of_words}
 use Rattle.visits.specs.Opening.{first_open}
-use Rattle.model.specs.Cube.{none, free}
-use lib.ListN.{length, get_or, set, length-set}
+use lib.ListN.{set, length-set}
 use Rattle.format.specs.Bytes.{code_of}
-use mathlib.Core.Logic.{◌⊎◌, inl}
+use mathlib.Core.Logic.{inl}
 use mathlib.Core.Path.{◌≡◌, refl, ◌∙◌}
 use native.Mathlib.Omega.{arith}
-use Prim.Native.Nat.{ℕ, ◌+◌, ◌-◌, ◌*◌, ◌/◌, ◌<◌, ◌^◌}
-use borrow.Author.Rules.{rules}
+use Prim.Native.Nat.{◌+◌, ◌-◌, ◌*◌, ◌/◌, ◌<◌}
 use Rattle.visits.proofs.table.enter.Goals as goal
 
 pub loop-i-init : goal.loop-i-init

@@ -1,19 +1,13 @@
 -- `visits::table::enter` meets its contract. The loop's invariant: `near` has the cut's code at the positions passed
 -- and is free elsewhere, and the cut is entered at these positions.
-use Rattle.visits.proofs.Entering.{fresh, free-words, enter-fits, enter-turn, enter-end, agree-turn}
-use Rattle.visits.proofs.Narrowing.{Opened, opened, took-cube, later_first}
-use Rattle.visits.proofs.WordCubes.{words-length}
 use Rattle.visits.specs.Loading.{Entered}
 use Rattle.visits.specs.Words.{cube_of_words}
 use Rattle.visits.specs.Opening.{first_open}
 use Rattle.model.specs.Cube.{none, free}
-use lib.ListN.{length, get_or, set, length-set}
-use Rattle.format.specs.Bytes.{code_of}
-use mathlib.Core.Logic.{◌⊎◌, inl}
-use mathlib.Core.Path.{◌≡◌, refl, ◌∙◌}
-use native.Mathlib.Omega.{arith}
-use Prim.Native.Nat.{ℕ, ◌+◌, ◌-◌, ◌*◌, ◌/◌, ◌<◌, ◌^◌}
-use borrow.Author.Rules.{rules}
+use lib.ListN.{length, get_or}
+use mathlib.Core.Logic.{◌⊎◌}
+use mathlib.Core.Path.{◌≡◌}
+use Prim.Native.Nat.{ℕ, ◌+◌, ◌-◌, ◌<◌, ◌^◌}
 use Rattle.visits.proofs.table.enter.Given as goal
 
 abbrev pub invariant-loop-i : goal.invariant-loop-i

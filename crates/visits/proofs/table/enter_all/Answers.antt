@@ -1,13 +1,11 @@
-use Rattle.visits.proofs.Entering.{EnteredAll, entered-none, entered-more}
+use Rattle.visits.proofs.Entering.{entered-none, entered-more}
 use Rattle.visits.proofs.Meeting.{pow-double}
 use Rattle.visits.specs.Alive.{Against}
 use Rattle.visits.specs.Words.{row_cube}
 use lib.Pow.{pow_mono}
-use lib.ListN.{length}
 use mathlib.Core.Path.{◌≡◌, subst}
 use native.Mathlib.Omega.{arith}
-use Prim.Native.Nat.{suc, ◌-◌, ◌≤◌}
-use borrow.Author.Rules.{rules}
+use Prim.Native.Nat.{suc, ◌≤◌}
 use Rattle.visits.proofs.table.enter_all.Goals as goal
 
 pub loop-m-init : goal.loop-m-init

@@ -1,14 +1,8 @@
 -- `visits::table::enter_all` meets its contract. The loop's invariant: the cuts of the first m rows are entered.
-use Rattle.visits.proofs.Entering.{EnteredAll, entered-none, entered-more}
-use Rattle.visits.proofs.Meeting.{pow-double}
-use Rattle.visits.specs.Alive.{Against}
-use Rattle.visits.specs.Words.{row_cube}
-use lib.Pow.{pow_mono}
+use Rattle.visits.proofs.Entering.{EnteredAll}
 use lib.ListN.{length}
-use mathlib.Core.Path.{◌≡◌, subst}
-use native.Mathlib.Omega.{arith}
-use Prim.Native.Nat.{suc, ◌-◌, ◌≤◌}
-use borrow.Author.Rules.{rules}
+use mathlib.Core.Path.{◌≡◌}
+use Prim.Native.Nat.{◌-◌, ◌≤◌}
 use Rattle.visits.proofs.table.enter_all.Given as goal
 
 abbrev pub invariant-loop-m : goal.invariant-loop-m

@@ -1,22 +1,13 @@
 -- `visits::visit::+visit` meets its contract, as its own cycle of calls. The measure is the number of cuts left. The
 -- loop's invariant: the whole visit is what is left of it with the allowance and the piece as they are, and i is the
 -- first position that the cut opens.
-use borrow.Author.Rules.{rules}
-use Prim.Native.Nat.{ℕ, ◌+◌, ◌-◌, ◌*◌, ◌^◌, ◌≤◌, ◌<◌, zero-le}
-use native.Mathlib.Nat.{pos_of_ne-zero}
-use native.Mathlib.Omega.{arith}
-use mathlib.Core.Path.{◌≡◌, refl, sym, ◌∙◌}
+use Prim.Native.Nat.{◌+◌, ◌-◌, ◌*◌, ◌^◌, ◌≤◌, ◌<◌}
+use mathlib.Core.Path.{◌≡◌}
 use lib.ListN.{length}
 use Rattle.model.specs.Walk.{visit as visits}
-use Rattle.model.proofs.Walking.{walk-positive}
 use Rattle.cube.specs.Whole.{cube_of, whole_at, wholes_at}
-use Rattle.visits.specs.Cuts.{Skipped}
 use Rattle.visits.specs.Opening.{first_open}
-use Rattle.visits.specs.Settle.{settle, left_from}
-use Rattle.visits.proofs.Cuts.{room}
-use Rattle.visits.proofs.Step.{front_length, front-cube, cube-length, cut-length, Opens, opens_at}
-use Rattle.visits.proofs.Settle.{settle-none, settle-keeps}
-use Rattle.visits.proofs.Turn.{begin-sum, begin-survives, begin-split, turn_end, turn-covered, turn-stop, is-covered, not_covered}
+use Rattle.visits.specs.Settle.{left_from}
 use Rattle.visits.proofs.visit.+visit.Given as goal
 
 abbrev pub invariant-loop-i : goal.invariant-loop-i

@@ -4,7 +4,6 @@ use lib.ListN.{length}
 use Rattle.model.specs.Cube.{shares}
 use Rattle.format.specs.Bytes.{codes}
 use Rattle.cube.proofs.Wholes.{whole_part}
-use borrow.Author.Rules.{rules}
 use Rattle.visits.proofs.visit.met.Goals as goal
 
 pub returns : goal.returns

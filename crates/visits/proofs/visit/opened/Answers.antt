@@ -4,7 +4,6 @@ use lib.ListN.{length}
 use Rattle.format.specs.Bytes.{codes}
 use Rattle.cube.proofs.Wholes.{whole_part, part_length}
 use Rattle.visits.specs.Opening.{first_open}
-use borrow.Author.Rules.{rules}
 use Rattle.visits.proofs.visit.opened.Goals as goal
 
 pub next_open-requires : goal.next_open-requires

@@ -1,12 +1,8 @@
 use Prim.Native.Nat.{◌+◌, ◌-◌, ◌*◌, ◌≤◌, ◌<◌}
 use native.Mathlib.Omega.{arith}
-use mathlib.Core.Path.{◌≡◌, sym, ◌∙◌}
+use mathlib.Core.Path.{sym, ◌∙◌}
 use lib.ListN.{length}
-use Rattle.model.specs.Walk.{visit}
-use Rattle.format.specs.Bytes.{codes}
-use Rattle.cube.specs.Whole.{wholes_at}
 use Rattle.visits.proofs.Cuts.{room, cuts-passed}
-use borrow.Author.Rules.{rules}
 use Rattle.visits.proofs.visit.skip.Goals as goal
 
 pub met-requires : goal.met-requires

@@ -1,13 +1,10 @@
 -- `visits::visit::skip` meets its contract. The loop's invariant: the visit with the cuts left is that with all.
-use Prim.Native.Nat.{◌+◌, ◌-◌, ◌*◌, ◌≤◌, ◌<◌}
-use native.Mathlib.Omega.{arith}
-use mathlib.Core.Path.{◌≡◌, sym, ◌∙◌}
+use Prim.Native.Nat.{◌+◌, ◌*◌, ◌≤◌}
+use mathlib.Core.Path.{◌≡◌}
 use lib.ListN.{length}
 use Rattle.model.specs.Walk.{visit}
 use Rattle.format.specs.Bytes.{codes}
 use Rattle.cube.specs.Whole.{wholes_at}
-use Rattle.visits.proofs.Cuts.{room, cuts-passed}
-use borrow.Author.Rules.{rules}
 use Rattle.visits.proofs.visit.skip.Given as goal
 
 abbrev pub invariant-loop-n : goal.invariant-loop-n

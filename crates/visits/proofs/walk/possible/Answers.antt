@@ -3,7 +3,6 @@ use native.Mathlib.Nat.{mul-le-mul}
 use native.Mathlib.Omega.{arith}
 use Rattle.format.proofs.Reached.{reached}
 use Rattle.visits.specs.Walked.{possible}
-use borrow.Author.Rules.{rules}
 use Rattle.visits.proofs.walk.possible.Goals as goal
 
 pub returns-then-q-gt80 : goal.returns-then-q-gt80

@@ -1,11 +1,9 @@
 -- `visits::walk::walk` meets its contract: what `possible` says is the one test.
 use mathlib.Core.Path.{◌≡◌, sym, ◌∙◌}
 use mathlib.Core.Bool.{true}
-use borrow.Author.Tests.{not-true, not-false}
 use lib.ListN.{length}
 use Rattle.visits.specs.Walked.{possible}
 use Rattle.visits.proofs.Walked.{possible-fits, walked-idle, walked-settles}
-use borrow.Author.Rules.{rules}
 use Rattle.visits.proofs.walk.walk.Goals as goal
 
 pub returns-then-not-possible : goal.returns-then-not-possible

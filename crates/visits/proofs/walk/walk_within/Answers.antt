@@ -1,8 +1,7 @@
 -- `visits::walk::walk_within` meets its contract.
-use Rattle.visits.proofs.Whole.{not-undecided, resumed-fits, resumed-says}
+use Rattle.visits.proofs.Whole.{resumed-fits, resumed-says}
 use mathlib.Core.Path.{refl}
 use native.Mathlib.Omega.{arith}
-use borrow.Author.Rules.{rules}
 use Rattle.visits.proofs.walk.walk_within.Goals as goal
 
 pub resumed-requires : goal.resumed-requires

@@ -1,6 +1,5 @@
 -- `visits::words::given` meets its contract.
 use Rattle.visits.proofs.Digits.{taken-fits, taken-there, given-right}
-use borrow.Author.Rules.{rules}
 use Rattle.visits.proofs.words.given.Goals as goal
 
 pub overflow_sub-result-3 : goal.overflow_sub-result-3

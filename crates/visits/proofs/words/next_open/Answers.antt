@@ -1,8 +1,5 @@
 use Rattle.visits.proofs.WordCubes.{open-here, open-passed, open-ended}
-use Rattle.visits.specs.Words.{cube_of_words}
-use Rattle.visits.specs.Opening.{first_open}
 use native.Mathlib.Omega.{arith}
-use Prim.Native.Nat.{◌*◌, ◌-◌, ◌≤◌}
 use borrow.Author.Rules.{rules}
 use Rattle.visits.proofs.words.next_open.Goals as goal
 

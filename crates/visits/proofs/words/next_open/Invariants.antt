@@ -1,10 +1,7 @@
 -- `visits::words::next_open` meets its contract. The loop's invariant: no word before w has a place that opens.
-use Rattle.visits.proofs.WordCubes.{open-here, open-passed, open-ended}
 use Rattle.visits.specs.Words.{cube_of_words}
 use Rattle.visits.specs.Opening.{first_open}
-use native.Mathlib.Omega.{arith}
 use Prim.Native.Nat.{◌*◌, ◌-◌, ◌≤◌}
-use borrow.Author.Rules.{rules}
 use Rattle.visits.proofs.words.next_open.Given as goal
 
 abbrev pub invariant-loop-w : goal.invariant-loop-w

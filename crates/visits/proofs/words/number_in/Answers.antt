@@ -4,7 +4,6 @@ use native.Mathlib.Nat.{mod-lt}
 use lib.Dec.{lit<}
 use mathlib.Core.Path.{refl}
 use lib.Bits.{and_mask}
-use borrow.Author.Rules.{rules}
 use Rattle.visits.proofs.words.number_in.Goals as goal
 
 pub returns : goal.returns

@@ -1,18 +1,10 @@
 -- `walk::ceilings::bound` meets its contract. The loop's invariant: t is the tally of the cuts from `end` on.
-use Prim.Native.Nat.{◌+◌, ◌-◌, ◌*◌, ◌≤◌, ◌<◌}
-use native.Mathlib.Omega.{arith}
-use mathlib.Core.Path.{◌≡◌, refl, ap, ◌∙◌}
-use mathlib.Core.List.{List}
+use Prim.Native.Nat.{◌+◌, ◌-◌, ◌*◌, ◌≤◌}
+use mathlib.Core.Path.{◌≡◌}
 use lib.ListN.{length}
-use borrow.Author.Rules.{rules}
-use Rattle.model.specs.Cube.{Cube}
-use Rattle.model.specs.Difference.{less}
-use Rattle.model.specs.Ceiling.{ceiling, capped}
 use Rattle.format.specs.Limits.{widest_cube, most_cuts}
-use Rattle.format.specs.Bytes.{codes}
 use Rattle.cube.specs.Whole.{wholes_at}
 use Rattle.walk.specs.Tally.{Tallied}
-use Rattle.walk.proofs.Tallies.{tally-begun, back, tally-more, part-back-length, part-back, under, all_left, none_left}
 use Rattle.walk.proofs.ceilings.bound.Given as goal
 
 abbrev pub invariant-loop-k : goal.invariant-loop-k

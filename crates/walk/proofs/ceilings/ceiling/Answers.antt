@@ -4,7 +4,6 @@ use native.Mathlib.Omega.{arith}
 use mathlib.Core.Bool.{true}
 use mathlib.Core.Path.{ap, ◌∙◌}
 use lib.ListN.{length}
-use borrow.Author.Rules.{rules}
 use Rattle.model.specs.Ceiling.{ceiling, capped}
 use Rattle.answer.specs.Answer.{counted}
 use Rattle.format.proofs.Lending.{one-refused, one_lent}

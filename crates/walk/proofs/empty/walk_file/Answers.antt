@@ -1,12 +1,8 @@
-use Prim.Native.Nat.{◌-◌}
 use native.Mathlib.Omega.{arith}
-use lib.ListN.{length}
-use borrow.Author.Rules.{rules}
 use Rattle.format.proofs.Filing.{file-of}
 use Rattle.region.proofs.Onward.{onward-record}
 use Rattle.region.proofs.Fronts.{front-next, front-stands}
-use Rattle.visits.proofs.Turn.{is-covered, not_covered}
-use Rattle.walk.proofs.Emptied.{FileLeft, file-begun, file-few, file-turn, file-stop, file-ended}
+use Rattle.walk.proofs.Emptied.{file-begun, file-few, file-turn, file-stop, file-ended}
 use Rattle.walk.proofs.empty.walk_file.Goals as goal
 
 pub loop-at-init : goal.loop-at-init

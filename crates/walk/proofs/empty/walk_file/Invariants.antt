@@ -1,13 +1,7 @@
 -- `walk::empty::walk_file` meets its contract. The loop's invariant: what is left to walk, and the differences before it are covered.
 use Prim.Native.Nat.{◌-◌}
-use native.Mathlib.Omega.{arith}
 use lib.ListN.{length}
-use borrow.Author.Rules.{rules}
-use Rattle.format.proofs.Filing.{file-of}
-use Rattle.region.proofs.Onward.{onward-record}
-use Rattle.region.proofs.Fronts.{front-next, front-stands}
-use Rattle.visits.proofs.Turn.{is-covered, not_covered}
-use Rattle.walk.proofs.Emptied.{FileLeft, file-begun, file-few, file-turn, file-stop, file-ended}
+use Rattle.walk.proofs.Emptied.{FileLeft}
 use Rattle.walk.proofs.empty.walk_file.Given as goal
 
 abbrev pub invariant-loop-at : goal.invariant-loop-at

@@ -3,7 +3,6 @@ use Prim.Native.Nat.{◌+◌, ◌*◌, ◌≤◌}
 use native.Mathlib.Omega.{arith}
 use native.Mathlib.Nat.{mul-le-mul}
 use lib.ListN.{length}
-use borrow.Author.Rules.{rules}
 use Rattle.format.specs.Limits.{widest_cube, most_cuts}
 use Rattle.walk.proofs.Moved.{cuts-gathered}
 use Rattle.walk.proofs.inclusion.gathered.Goals as goal

@@ -3,7 +3,6 @@ use Prim.Native.Nat.{◌+◌, ◌-◌}
 use native.Mathlib.Omega.{arith}
 use mathlib.Core.Path.{sym, ap, ap₂, ◌∙◌}
 use lib.ListN.{take, drop, replicate}
-use borrow.Author.Rules.{rules}
 use Rattle.model.specs.Cube.{meet}
 use Rattle.format.specs.Limits.{widest_cube}
 use Rattle.cube.specs.Whole.{cube_of}

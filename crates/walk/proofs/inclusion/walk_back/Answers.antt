@@ -1,8 +1,6 @@
 -- `walk::inclusion::walk_back` meets its contract.
 use native.Mathlib.Omega.{arith}
 use mathlib.Core.Path.{◌≡◌, sym, ap, ◌∙◌}
-use borrow.Author.Tests.{not-true, not-false}
-use borrow.Author.Rules.{rules}
 use Rattle.model.specs.Cube.{shares}
 use Rattle.model.proofs.Including.{back-met}
 use Rattle.cube.proofs.Wholes.{whole_part}

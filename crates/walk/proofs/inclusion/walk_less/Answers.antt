@@ -1,8 +1,6 @@
 -- `walk::inclusion::walk_less` meets its contract.
 use native.Mathlib.Omega.{arith}
-use borrow.Author.Rules.{rules}
 use Rattle.visits.proofs.Settle.{settle-keeps}
-use Rattle.visits.proofs.Turn.{is-covered, not_covered}
 use Rattle.visits.specs.Settle.{says}
 use Rattle.walk.proofs.Ended.{ends-here, ends-turn}
 use Rattle.walk.proofs.inclusion.walk_less.Goals as goal

@@ -1,11 +1,8 @@
 use Prim.Native.Nat.{◌+◌, ◌-◌, ◌*◌, ◌≤◌}
 use native.Mathlib.Omega.{arith}
 use lib.ListN.{length}
-use borrow.Author.Rules.{rules}
-use Rattle.region.specs.Front.{whole_difference}
-use Rattle.visits.proofs.Turn.{is-covered, not_covered}
 use Rattle.visits.proofs.Cuts.{room}
-use Rattle.walk.proofs.Restoring.{CutsLeft, cuts-begun, cuts-turn, cuts-stop, cuts-ended}
+use Rattle.walk.proofs.Restoring.{cuts-begun, cuts-turn, cuts-stop, cuts-ended}
 use Rattle.walk.proofs.inclusion.walk_restored.Goals as goal
 
 pub overflow_add-at : goal.overflow_add-at

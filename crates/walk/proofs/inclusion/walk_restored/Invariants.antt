@@ -1,12 +1,6 @@
 -- `walk::inclusion::walk_restored` meets its contract. The loop's invariant: what is left to walk, and the pieces before it are covered.
-use Prim.Native.Nat.{◌+◌, ◌-◌, ◌*◌, ◌≤◌}
-use native.Mathlib.Omega.{arith}
-use lib.ListN.{length}
-use borrow.Author.Rules.{rules}
 use Rattle.region.specs.Front.{whole_difference}
-use Rattle.visits.proofs.Turn.{is-covered, not_covered}
-use Rattle.visits.proofs.Cuts.{room}
-use Rattle.walk.proofs.Restoring.{CutsLeft, cuts-begun, cuts-turn, cuts-stop, cuts-ended}
+use Rattle.walk.proofs.Restoring.{CutsLeft}
 use Rattle.walk.proofs.inclusion.walk_restored.Given as goal
 
 abbrev pub invariant-loop-left : goal.invariant-loop-left

@@ -1,7 +1,6 @@
 -- `walk::record::walk_record` meets its contract.
 use native.Mathlib.Omega.{arith}
 use mathlib.Core.Path.{◌∙◌}
-use borrow.Author.Rules.{rules}
 use Rattle.visits.proofs.Walked.{walked-settles}
 use Rattle.walk.proofs.Recorded.{loaded}
 use Rattle.walk.proofs.record.walk_record.Goals as goal

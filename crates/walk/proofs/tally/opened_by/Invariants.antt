@@ -1,13 +1,10 @@
 -- `walk::tally::opened_by` meets its contract. The loop's invariant: what is counted and what is still to count make the whole.
-use Prim.Native.Nat.{◌+◌, ◌-◌, ◌*◌, ◌≤◌, ◌<◌}
-use native.Mathlib.Omega.{arith}
+use Prim.Native.Nat.{◌+◌, ◌-◌, ◌*◌, ◌≤◌}
 use mathlib.Core.Path.{◌≡◌}
 use lib.ListN.{length, drop}
-use borrow.Author.Rules.{rules}
 use Rattle.model.specs.Cube.{meet}
 use Rattle.format.specs.Bytes.{codes}
 use Rattle.cube.specs.Count.{free_count}
-use Rattle.walk.proofs.Frees.{count_turn, met-turn, lost-fewer, lost-left}
 use Rattle.walk.proofs.tally.opened_by.Given as goal
 
 abbrev pub invariant-loop-i : goal.invariant-loop-i

@@ -1,7 +1,6 @@
 -- `walk::tally::places` meets its contract.
 use native.Mathlib.Omega.{arith}
 use mathlib.Core.List.{[], ◌∷◌}
-use borrow.Author.Rules.{rules}
 use Rattle.format.specs.Bytes.{codes}
 use Rattle.walk.proofs.Frees.{count_most}
 use Rattle.walk.proofs.tally.places.Goals as goal

@@ -4,7 +4,6 @@ use native.Mathlib.Nat.{one-mul}
 use native.Mathlib.Omega.{arith}
 use mathlib.Core.Path.{sym, ◌∙◌}
 use lib.Pow.{shl_exact, pow_mono}
-use borrow.Author.Rules.{rules}
 use Rattle.model.proofs.Bound.{capped_same}
 use Rattle.walk.proofs.Caps.{capped-large}
 use Rattle.walk.proofs.tally.power.Goals as goal

@@ -1,14 +1,12 @@
 -- `walk::tally::smaller` meets its contract.
 use Prim.Native.Nat.{ℕ, ◌+◌, ◌*◌}
 use native.Mathlib.Omega.{arith}
-use mathlib.Core.Path.{◌≡◌, ap, ◌∙◌}
-use mathlib.Core.List.{List}
+use mathlib.Core.Path.{ap, ◌∙◌}
 use lib.ListN.{length}
-use borrow.Author.Rules.{rules}
 use Rattle.model.specs.Cube.{Cube}
 use Rattle.model.specs.Ceiling.{ceiling_from, marks, ceiling_over, capped}
 use Rattle.format.specs.Bytes.{codes}
-use Rattle.walk.specs.Tally.{lost, Tallied}
+use Rattle.walk.specs.Tally.{lost}
 use Rattle.walk.proofs.Caps.{first-smaller, second-smaller}
 use Rattle.walk.proofs.Tallies.{kept-front, tally-over}
 use Rattle.walk.proofs.tally.smaller.Goals as goal

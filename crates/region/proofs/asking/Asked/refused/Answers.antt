@@ -1,6 +1,5 @@
 -- `region::asking::Asked::refused` meets its contract.
 use mathlib.Core.Path.{refl}
-use borrow.Author.Rules.{rules}
 use Rattle.region.proofs.asking.Asked.refused.Goals as goal
 
 pub returns : goal.returns
