@@ -62,19 +62,19 @@ fn shift(input: &mut [u8], start: usize, end: usize) -> usize
 }
 
 // One read behind the first `kept` bytes, of which it gives the count; 0 at the input's end.
-fn read_behind(rt: &impl Input, input: &mut [u8], kept: usize) -> Result<usize>
+fn read_behind(reader: &mut impl Read, input: &mut [u8], kept: usize) -> Result<usize>
     requires { kept ≤ length input.old }
     ensures { IfOk result (λ n. kept + n ≤ length input.old) }
 {
-    rt.reader().read(&mut input[kept..])
+    reader.read(&mut input[kept..])
 }
 
 // Reads on in a line whose first `kept` bytes have no newline.
-fn read_more(rt: &impl Input, input: &mut [u8], kept: usize, passed: bool) -> Result<Lines>
+fn read_more(reader: &mut impl Read, input: &mut [u8], kept: usize, passed: bool) -> Result<Lines>
     requires { kept ≤ length input.old }
     ensures { IfOk result (λ l. Sound l (length input.old)) }
 {
-    let got = read_behind(rt, input, kept)?;
+    let got = read_behind(reader, input, kept)?;
     Ok(Lines {
         start: 0,
         seen: kept,
@@ -92,13 +92,13 @@ fn too_long(l: Lines) -> bool
 }
 
 // The line's beginning goes to the front of the buffer, where it is kept, and more is read behind it.
-pub(crate) fn refill(rt: &impl Input, input: &mut [u8], l: Lines) -> Result<Lines>
+pub(crate) fn refill(reader: &mut impl Read, input: &mut [u8], l: Lines) -> Result<Lines>
     requires { Sound l (length input.old) }
     ensures { IfOk result (λ m. Sound m (length input.old)) }
 {
     if too_long(l) {
-        return read_more(rt, input, 0, true);
+        return read_more(reader, input, 0, true);
     }
     let kept = shift(input, l.start, l.end);
-    read_more(rt, input, kept, false)
+    read_more(reader, input, kept, false)
 }

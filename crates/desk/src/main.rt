@@ -18,7 +18,7 @@ ghost use Rattle.desk.specs.Reading.{Sound};
 use answers::answer_line;
 use find::find;
 use lines::Lines;
-use std::io::Result;
+use std::io::{Read, Result};
 
 // What is read, how many bytes are held to be written, and whether all is done.
 #[derive(Clone, Copy)]
@@ -68,7 +68,8 @@ fn finish(
 
 // Answers the next line, or reads on where its end is not there yet. All that is held is written out before more is read.
 fn turn(
-    rt: &(impl Input + Print),
+    rt: &impl Print,
+    reader: &mut impl Read,
     p: Progress,
     input: &mut [u8],
     out: &mut [u8],
@@ -91,7 +92,7 @@ fn turn(
     }
     if l.open {
         let held = text::flush(rt, text, p.held)?;
-        let lines = lines::refill(rt, input, l)?;
+        let lines = lines::refill(reader, input, l)?;
         return Ok(Progress {
             lines,
             held,
@@ -108,7 +109,8 @@ fn turn(
 
 // Answers all lines. No input has as many lines as there are turns.
 fn answer_all(
-    rt: &(impl Input + Print),
+    rt: &impl Print,
+    reader: &mut impl Read,
     input: &mut [u8],
     out: &mut [u8],
     text: &mut [u8],
@@ -121,7 +123,7 @@ fn answer_all(
     };
     let mut turns: u64 = 18446744073709551615;
     while 0 < turns {
-        p = turn(rt, p, input, out, text)?;
+        p = turn(rt, reader, p, input, out, text)?;
         if p.done {
             return Ok(());
         }
@@ -135,5 +137,5 @@ fn main(rt: HostRuntime) -> Result<()> {
     let mut input = [0u8; 589824];
     let mut out = [0u8; 1048576];
     let mut text = [0u8; 2097152];
-    answer_all(&rt, &mut input, &mut out, &mut text)
+    answer_all(&rt, &mut rt.stdin(), &mut input, &mut out, &mut text)
 }

@@ -1,7 +1,8 @@
 // Reads a region file on standard input and writes one line: whether no header can come through, or one that can.
 #![tactic(auto)]
 
-ghost use Rattle.std.specs.Prelude.{◌≡◌, ◌≤◌, length, IfOk};
+ghost use Rattle.std.specs.Prelude.{◌≡◌, ◌<◌, ◌≤◌, length, take, IfOk};
+ghost use Rattle.std.specs.Io.KnownBytes.{Consumes, IsAtEnd};
 ghost use Rattle.format.specs.Limits.{widest_header};
 ghost use Rattle.format.specs.Told.{over};
 ghost use Rattle.format.specs.Calls.{question};
@@ -25,11 +26,12 @@ fn ask(input: &[u8], header: &mut [u8]) -> Answer
     walk::region_empty(input, 1000000, header)
 }
 
-// Reads until `input` is full or the input ends, and gives how many bytes are read. They stand at the front.
-fn read_full(rt: &impl Input, input: &mut [u8]) -> Result<usize>
-    ensures { IfOk result (λ n. n ≤ length input.old) }
+// Reads until `input` is full or there is no more to read, and gives how many bytes are read. They stand at the front.
+fn read_full<R: Read>(reader: &mut R, input: &mut [u8]) -> Result<usize>
+    ensures bound { IfOk result (λ n. n ≤ length input.old) }
+    ensures bytes { IfOk result (λ n. Consumes (R.remaining reader.old) (R.remaining reader.new) (take n input.new)) }
+    ensures end { IfOk result (λ n. n < length input.old → IsAtEnd (R.remaining reader.new)) }
 {
-    let mut reader = rt.reader();
     let mut done = 0;
     while done < input.len() {
         let n = reader.read(&mut input[done..])?;
@@ -84,7 +86,7 @@ fn put_line(rt: &impl Print, a: Answer, header: &[u8]) -> Result<()> {
 
 fn main(rt: HostRuntime) -> Result<()> {
     let mut input = [0u8; MOST_INPUT + 1];
-    let n = read_full(&rt, &mut input)?;
+    let n = read_full(&mut rt.stdin(), &mut input)?;
     let mut header = [0u8; WIDEST_HEADER];
     let answer = ask(&input[..n], &mut header);
     put_line(&rt, answer, &header)
