@@ -1,5 +1,6 @@
 // The lines of the input, read into a lent buffer.
-ghost use Rattle.std.specs.Prelude.{◌+◌, ◌-◌, ◌≤◌, ◌<◌, ◌≡◌, length, IfOk};
+ghost use Rattle.std.specs.Prelude.{◌+◌, ◌-◌, ◌≤◌, ◌<◌, ◌≡◌, length, take, drop, IfOk, OnErr};
+ghost use Rattle.std.specs.Io.KnownBytes.{Consumes, IsAtEnd, Keeps};
 ghost use Rattle.desk.specs.Reading.{Sound};
 
 use std::io::{Read, Result};
@@ -61,10 +62,14 @@ fn shift(input: &mut [u8], start: usize, end: usize) -> usize
     i
 }
 
-// One read behind the first `kept` bytes, of which it gives the count; 0 at the input's end.
-fn read_behind(reader: &mut impl Read, input: &mut [u8], kept: usize) -> Result<usize>
+// One read behind the first `kept` bytes, which stay; it gives how many bytes it reads, 0 at the input's end.
+fn read_behind<R: Read>(reader: &mut R, input: &mut [u8], kept: usize) -> Result<usize>
     requires { kept ≤ length input.old }
-    ensures { IfOk result (λ n. kept + n ≤ length input.old) }
+    ensures fits { IfOk result (λ n. kept + n ≤ length input.old) }
+    ensures front { take kept input.new ≡ take kept input.old }
+    ensures bytes { IfOk result (λ n. Consumes (R.remaining reader.old) (R.remaining reader.new) (take n (drop kept input.new))) }
+    ensures end { IfOk result (λ n. n ≡ 0 → kept < length input.old → IsAtEnd (R.remaining reader.new)) }
+    ensures err { OnErr result (Keeps (R.remaining reader.old) (R.remaining reader.new)) }
 {
     reader.read(&mut input[kept..])
 }
