@@ -6,13 +6,14 @@ use crate::lines::LONGEST;
 use crate::text::{put, put_all, put_numbers};
 use crate::{arguments, calls, room, words};
 use answer::Answer;
+use std::io::Result;
 
-fn put_unreadable(text: &mut [u8], held: usize) -> usize {
-    put_all(text, held, b"unreadable\n")
+fn put_unreadable(rt: &impl Print, text: &mut [u8], held: usize) -> Result<usize> {
+    put_all(rt, text, held, b"unreadable\n")
 }
 
 // The six parts of a result, with a space behind each.
-fn put_answer(text: &mut [u8], held: usize, r: Answer) -> usize {
+fn put_answer(rt: &impl Print, text: &mut [u8], held: usize, r: Answer) -> Result<usize> {
     let parts = [
         r.number as u64,
         r.operand as u64,
@@ -21,64 +22,82 @@ fn put_answer(text: &mut [u8], held: usize, r: Answer) -> usize {
         r.written as u64,
         r.index as u64,
     ];
-    put_numbers(text, held, &parts)
+    put_numbers(rt, text, held, &parts)
 }
 
-fn put_end(text: &mut [u8], held: usize, touched: bool) -> usize {
+fn put_end(rt: &impl Print, text: &mut [u8], held: usize, touched: bool) -> Result<usize> {
     if touched {
-        put_all(text, held, b" TOUCHED\n")
+        put_all(rt, text, held, b" TOUCHED\n")
     } else {
-        put(text, held, b'\n')
+        put(rt, text, held, b'\n')
     }
 }
 
 // Lends the room to the call, and holds the line that says what it gave.
 fn answer(
+    rt: &impl Print,
     call: Call,
     q: Arguments,
     line: &[u8],
     room: &mut [u8],
     text: &mut [u8],
     held: usize,
-) -> usize {
+) -> Result<usize> {
     let a = part(line, q.a, q.a_end);
     let b = part(line, q.b, q.b_end);
     room::fill(room);
     let given = calls::ask(call, q, a, b, room);
     let r = given.answer;
-    let held = put_answer(text, held, r);
-    let held = calls::put_rest(text, held, call, q, a, b, given, part(room, 0, r.written));
-    put_end(text, held, room::touched(room, r.written))
+    let held = put_answer(rt, text, held, r)?;
+    let held = calls::put_rest(
+        rt,
+        text,
+        held,
+        call,
+        q,
+        a,
+        b,
+        given,
+        part(room, 0, r.written),
+    )?;
+    put_end(rt, text, held, room::touched(room, r.written))
 }
 
 // Answers a question whose arguments are known.
 fn answer_question(
+    rt: &impl Print,
     call: Call,
     line: &mut [u8],
     q: Arguments,
     out: &mut [u8],
     text: &mut [u8],
     held: usize,
-) -> usize {
+) -> Result<usize> {
     let room = q.room;
     if q.known {
         if room <= out.len() {
-            return answer(call, q, line, &mut out[0..room], text, held);
+            return answer(rt, call, q, line, &mut out[0..room], text, held);
         }
     }
-    put_unreadable(text, held)
+    put_unreadable(rt, text, held)
 }
 
 // Answers a line that is given without its newline.
-pub(crate) fn answer_line(line: &mut [u8], out: &mut [u8], text: &mut [u8], held: usize) -> usize {
+pub(crate) fn answer_line(
+    rt: &impl Print,
+    line: &mut [u8],
+    out: &mut [u8],
+    text: &mut [u8],
+    held: usize,
+) -> Result<usize> {
     if LONGEST < line.len() {
-        return put_unreadable(text, held);
+        return put_unreadable(rt, text, held);
     }
     let words = words::split(line);
     let call = calls::named(part(line, 0, words.ends[0]));
     if let Call::Unknown = call {
-        return put_unreadable(text, held);
+        return put_unreadable(rt, text, held);
     }
     let q = arguments::read(line, words, calls::form(call));
-    answer_question(call, line, q, out, text, held)
+    answer_question(rt, call, line, q, out, text, held)
 }

@@ -31,7 +31,7 @@ const MOST_ALLOWANCE: usize = 4294967295;
 const MOST_ROOM: usize = 1048576;
 
 // An operand is left in the line, where its digits stood: the first from `a` to `a_end`, the second from `b` to `b_end`.
-#[derive(Drop)]
+#[derive(Clone, Copy)]
 pub(crate) struct Arguments {
     pub(crate) known: bool,
     pub(crate) w: usize,

@@ -4,8 +4,9 @@ use crate::find::part;
 use crate::text::{put, put_bytes, put_number};
 use crate::words::place;
 use answer::Answer;
+use std::io::Result;
 
-#[derive(Drop)]
+#[derive(Clone, Copy)]
 pub(crate) enum Call {
     CubeMeet,
     CubeIn,
@@ -82,7 +83,7 @@ pub(crate) fn form(call: Call) -> [u8; 6] {
 }
 
 // What a call gives: its result; and beside it, where a stretch of the file starts and ends, or the next place, which is then the start.
-#[derive(Drop)]
+#[derive(Clone, Copy)]
 pub(crate) struct Given {
     pub(crate) answer: Answer,
     pub(crate) start: usize,
@@ -148,14 +149,21 @@ pub(crate) fn ask(call: Call, q: Arguments, a: &[u8], b: &[u8], out: &mut [u8]) 
 }
 
 // A cube of a file, and where it starts.
-fn put_view(text: &mut [u8], held: usize, file: &[u8], given: Given) -> usize {
-    let held = put_bytes(text, held, part(file, given.start, given.end));
-    let held = put(text, held, b' ');
-    put_number(text, held, given.start as u64)
+fn put_view(
+    rt: &impl Print,
+    text: &mut [u8],
+    held: usize,
+    file: &[u8],
+    given: Given,
+) -> Result<usize> {
+    let held = put_bytes(rt, text, held, part(file, given.start, given.end))?;
+    let held = put(rt, text, held, b' ')?;
+    put_number(rt, text, held, given.start as u64)
 }
 
 // What the call hands beside its result.
 pub(crate) fn put_rest<'a>(
+    rt: &impl Print,
     text: &mut [u8],
     held: usize,
     call: Call,
@@ -164,11 +172,11 @@ pub(crate) fn put_rest<'a>(
     b: &'a [u8],
     given: Given,
     written: &[u8],
-) -> usize {
+) -> Result<usize> {
     match call {
-        Call::Wider => put_bytes(text, held, cube::wider(q.w, a, b)),
-        Call::View => put_view(text, held, a, given),
-        Call::ReadOn => put_number(text, held, given.start as u64),
-        _ => put_bytes(text, held, written),
+        Call::Wider => put_bytes(rt, text, held, cube::wider(q.w, a, b)),
+        Call::View => put_view(rt, text, held, a, given),
+        Call::ReadOn => put_number(rt, text, held, given.start as u64),
+        _ => put_bytes(rt, text, held, written),
     }
 }

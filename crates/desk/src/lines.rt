@@ -1,15 +1,16 @@
 // The lines of the input, read into a lent buffer.
-ghost use Rattle.std.specs.Prelude.{◌+◌, ◌-◌, ◌≤◌, ◌<◌, ◌≡◌, length};
+ghost use Rattle.std.specs.Prelude.{◌+◌, ◌-◌, ◌≤◌, ◌<◌, ◌≡◌, length, take, drop, IfOk, OnErr};
+ghost use Rattle.std.specs.Io.KnownBytes.{Consumes, IsAtEnd, Keeps};
 ghost use Rattle.desk.specs.Reading.{Sound};
 
-use libc::STDIN_FILENO;
+use std::io::{Read, Result};
 
 // A line of more bytes is no question.
 pub(crate) const LONGEST: usize = 524288;
 
 // Where reading stands: a line begins at `start`, no newline was found up to `seen`, and the bytes read end at `end`. `open` while there may be
 // more to read; `passed` where the beginning of the line was too long to keep.
-#[derive(Drop)]
+#[derive(Clone, Copy)]
 pub(crate) struct Lines {
     pub(crate) start: usize,
     pub(crate) seen: usize,
@@ -61,29 +62,31 @@ fn shift(input: &mut [u8], start: usize, end: usize) -> usize
     i
 }
 
-// One read behind the first `kept` bytes, of which it gives the count; 0 at the input's end.
-fn read_behind(input: &mut [u8], kept: usize) -> usize
+// One read behind the first `kept` bytes, which stay; it gives how many bytes it reads, 0 at the input's end.
+fn read_behind<R: Read>(reader: &mut R, input: &mut [u8], kept: usize) -> Result<usize>
     requires { kept ≤ length input.old }
-    ensures { kept + result ≤ length input.old }
+    ensures fits { IfOk result (λ n. kept + n ≤ length input.old) }
+    ensures front { take kept input.new ≡ take kept input.old }
+    ensures bytes { IfOk result (λ n. Consumes (R.remaining reader.old) (R.remaining reader.new) (take n (drop kept input.new))) }
+    ensures end { IfOk result (λ n. n ≡ 0 → kept < length input.old → IsAtEnd (R.remaining reader.new)) }
+    ensures err { OnErr result (Keeps (R.remaining reader.old) (R.remaining reader.new)) }
 {
-    let free = &mut input[kept..];
-    let got = libc::read(STDIN_FILENO, free);
-    io::count(got, free)
+    reader.read(&mut input[kept..])
 }
 
 // Reads on in a line whose first `kept` bytes have no newline.
-fn read_more(input: &mut [u8], kept: usize, passed: bool) -> Lines
+fn read_more(reader: &mut impl Read, input: &mut [u8], kept: usize, passed: bool) -> Result<Lines>
     requires { kept ≤ length input.old }
-    ensures { Sound result (length input.old) }
+    ensures { IfOk result (λ l. Sound l (length input.old)) }
 {
-    let got = read_behind(input, kept);
-    Lines {
+    let got = read_behind(reader, input, kept)?;
+    Ok(Lines {
         start: 0,
         seen: kept,
         end: kept + got,
         open: 0 < got,
         passed,
-    }
+    })
 }
 
 // Whether the line of which no end is read yet is too long to keep.
@@ -94,13 +97,13 @@ fn too_long(l: Lines) -> bool
 }
 
 // The line's beginning goes to the front of the buffer, where it is kept, and more is read behind it.
-pub(crate) fn refill(input: &mut [u8], l: Lines) -> Lines
+pub(crate) fn refill(reader: &mut impl Read, input: &mut [u8], l: Lines) -> Result<Lines>
     requires { Sound l (length input.old) }
-    ensures { Sound result (length input.old) }
+    ensures { IfOk result (λ m. Sound m (length input.old)) }
 {
     if too_long(l) {
-        return read_more(input, 0, true);
+        return read_more(reader, input, 0, true);
     }
     let kept = shift(input, l.start, l.end);
-    read_more(input, kept, false)
+    read_more(reader, input, kept, false)
 }

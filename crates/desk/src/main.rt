@@ -12,15 +12,16 @@ mod room;
 mod text;
 mod words;
 
-ghost use Rattle.std.specs.Prelude.{◌≤◌, length};
+ghost use Rattle.std.specs.Prelude.{◌≤◌, length, IfOk};
 ghost use Rattle.desk.specs.Reading.{Sound};
 
 use answers::answer_line;
 use find::find;
 use lines::Lines;
+use std::io::{Read, Result};
 
 // What is read, how many bytes are held to be written, and whether all is done.
-#[derive(Drop)]
+#[derive(Clone, Copy)]
 struct Progress {
     lines: Lines,
     held: usize,
@@ -29,70 +30,91 @@ struct Progress {
 
 // Answers the line up to `end`. One that was too long to keep is no question, whatever is left of it.
 fn answer_to(
+    rt: &impl Print,
     l: Lines,
     end: usize,
     input: &mut [u8],
     out: &mut [u8],
     text: &mut [u8],
     held: usize,
-) -> usize
+) -> Result<usize>
     requires { (l.start ≤ end) × (end ≤ length input.old) }
 {
     let start = l.start;
     if l.passed {
-        answer_line(&mut input[0..0], out, text, held)
+        answer_line(rt, &mut input[0..0], out, text, held)
     } else {
-        answer_line(&mut input[start..end], out, text, held)
+        answer_line(rt, &mut input[start..end], out, text, held)
     }
 }
 
 // Answers a last line that has no newline, and writes out what is held.
-fn finish(l: Lines, input: &mut [u8], out: &mut [u8], text: &mut [u8], held: usize) -> usize
+fn finish(
+    rt: &impl Print,
+    l: Lines,
+    input: &mut [u8],
+    out: &mut [u8],
+    text: &mut [u8],
+    held: usize,
+) -> Result<usize>
     requires { Sound l (length input.old) }
 {
     if l.passed || l.start < l.end {
-        let held = answer_to(l, l.end, input, out, text, held);
-        return text::flush(text, held);
+        let held = answer_to(rt, l, l.end, input, out, text, held)?;
+        return text::flush(rt, text, held);
     }
-    text::flush(text, held)
+    text::flush(rt, text, held)
 }
 
 // Answers the next line, or reads on where its end is not there yet. All that is held is written out before more is read.
-fn turn(p: Progress, input: &mut [u8], out: &mut [u8], text: &mut [u8]) -> Progress
+fn turn(
+    rt: &impl Print,
+    reader: &mut impl Read,
+    p: Progress,
+    input: &mut [u8],
+    out: &mut [u8],
+    text: &mut [u8],
+) -> Result<Progress>
     requires { Sound p.lines (length input.old) }
-    ensures { Sound result.lines (length input.old) }
+    ensures { IfOk result (λ q. Sound q.lines (length input.old)) }
 {
     let l = p.lines;
     let end = l.end;
     let newline = find(&input[0..end], l.seen, b'\n');
     if newline < end {
-        let held = answer_to(l, newline, input, out, text, p.held);
+        let held = answer_to(rt, l, newline, input, out, text, p.held)?;
         let lines = lines::after(l, newline);
-        return Progress {
+        return Ok(Progress {
             lines,
             held,
             done: false,
-        };
+        });
     }
     if l.open {
-        let held = text::flush(text, p.held);
-        let lines = lines::refill(input, l);
-        return Progress {
+        let held = text::flush(rt, text, p.held)?;
+        let lines = lines::refill(reader, input, l)?;
+        return Ok(Progress {
             lines,
             held,
             done: false,
-        };
+        });
     }
-    let held = finish(l, input, out, text, p.held);
-    Progress {
+    let held = finish(rt, l, input, out, text, p.held)?;
+    Ok(Progress {
         lines: l,
         held,
         done: true,
-    }
+    })
 }
 
 // Answers all lines. No input has as many lines as there are turns.
-fn answer_all(input: &mut [u8], out: &mut [u8], text: &mut [u8]) {
+fn answer_all(
+    rt: &impl Print,
+    reader: &mut impl Read,
+    input: &mut [u8],
+    out: &mut [u8],
+    text: &mut [u8],
+) -> Result<()> {
     let lines = lines::begin();
     let mut p = Progress {
         lines,
@@ -101,18 +123,19 @@ fn answer_all(input: &mut [u8], out: &mut [u8], text: &mut [u8]) {
     };
     let mut turns: u64 = 18446744073709551615;
     while 0 < turns {
-        p = turn(p, input, out, text);
+        p = turn(rt, reader, p, input, out, text)?;
         if p.done {
-            return;
+            return Ok(());
         }
         turns -= 1;
     }
+    Ok(())
 }
 
 // The input's buffer has room for the longest line and for 65,536 bytes to be read behind it; the text's for the digits of all that a call can write.
-fn main() {
+fn main(rt: HostRuntime) -> Result<()> {
     let mut input = [0u8; 589824];
     let mut out = [0u8; 1048576];
     let mut text = [0u8; 2097152];
-    answer_all(&mut input, &mut out, &mut text);
+    answer_all(&rt, &mut rt.stdin(), &mut input, &mut out, &mut text)
 }

@@ -2,7 +2,7 @@
 ghost use Rattle.std.specs.Prelude.{◌≤◌};
 
 // What a word says: a number, or how many bytes. Where the word is not readable it is not known, and 0.
-#[derive(Drop)]
+#[derive(Clone, Copy)]
 pub(crate) struct Number {
     pub(crate) known: bool,
     pub(crate) value: usize,

@@ -1,70 +1,77 @@
 // The lines that the program writes, held in a lent buffer until it is full. Each function takes how many bytes the buffer holds and gives
-// how many it holds then.
-ghost use Rattle.std.specs.Prelude.{◌≤◌, length};
+// how many it holds then, or the error of a write that failed.
+ghost use Rattle.std.specs.Prelude.{◌≡◌, ◌+◌, ◌<◌, ◌≤◌, length, IfOk, OnErr};
 
-use libc::STDOUT_FILENO;
+use itoa::Buffer;
+use std::io::Result;
 
 // Writes out what is held, after which nothing is.
-pub(crate) fn flush(text: &[u8], held: usize) -> usize
-    ensures { result ≤ length text.now }
+pub(crate) fn flush(rt: &impl Print, text: &[u8], held: usize) -> Result<usize>
+    ensures { IfOk result (λ n. n ≤ length text.now) }
 {
     if held <= text.len() {
-        io::write_all(STDOUT_FILENO, &text[0..held]);
+        rt.write_all(&text[0..held])?;
     }
-    0
+    Ok(0)
 }
 
-// Holds one byte more.
-pub(crate) fn put(text: &mut [u8], held: usize, byte: u8) -> usize
-    ensures { result ≤ length text.old }
+// Holds one byte more. No write is made while there is room, and one that fails leaves the buffer as it was.
+pub(crate) fn put(rt: &impl Print, text: &mut [u8], held: usize, byte: u8) -> Result<usize>
+    ensures ok { IfOk result (λ n. n ≤ length text.old) }
+    ensures room { held < length text.old → result ≡ Ok (held + 1) }
+    ensures err { OnErr result (text.new ≡ text.old) }
 {
     if held < text.len() {
         text[held] = byte;
-        return held + 1;
+        return Ok(held + 1);
     }
-    flush(text, held);
+    flush(rt, text, held)?;
     if 0 < text.len() {
         text[0] = byte;
-        return 1;
+        return Ok(1);
     }
-    0
+    Ok(0)
 }
 
 // Holds the bytes of `s` too.
-pub(crate) fn put_all(text: &mut [u8], held: usize, s: &[u8]) -> usize {
+pub(crate) fn put_all(rt: &impl Print, text: &mut [u8], held: usize, s: &[u8]) -> Result<usize> {
     let mut held = held;
     let mut i = 0;
     while i < s.len() {
-        held = put(text, held, s[i]);
+        held = put(rt, text, held, s[i])?;
         i += 1;
     }
-    held
+    Ok(held)
 }
 
 // A number in decimal.
-pub(crate) fn put_number(text: &mut [u8], held: usize, n: u64) -> usize {
-    let mut digits = [0u8; 20];
-    let k = io::decimal(n, &mut digits);
-    put_all(text, held, &digits[..k])
+pub(crate) fn put_number(rt: &impl Print, text: &mut [u8], held: usize, n: u64) -> Result<usize> {
+    let mut digits = Buffer::new();
+    put_all(rt, text, held, digits.format(n).as_bytes())
 }
 
 // Numbers in decimal, with a space behind each.
-pub(crate) fn put_numbers(text: &mut [u8], held: usize, s: &[u64]) -> usize {
+pub(crate) fn put_numbers(
+    rt: &impl Print,
+    text: &mut [u8],
+    held: usize,
+    s: &[u64],
+) -> Result<usize> {
     let mut held = held;
     let mut i = 0;
     while i < s.len() {
-        held = put_number(text, held, s[i]);
-        held = put(text, held, b' ');
+        held = put_number(rt, text, held, s[i])?;
+        held = put(rt, text, held, b' ')?;
         i += 1;
     }
-    held
+    Ok(held)
 }
 
 // Bytes in hex, `-` for none. What is held is written out first, so that the digits have the whole buffer; no more than fit are held.
-pub(crate) fn put_bytes(text: &mut [u8], held: usize, s: &[u8]) -> usize {
+pub(crate) fn put_bytes(rt: &impl Print, text: &mut [u8], held: usize, s: &[u8]) -> Result<usize> {
     if s.len() == 0 {
-        return put(text, held, b'-');
+        return put(rt, text, held, b'-');
     }
-    flush(text, held);
-    hex_bytes::write(s, text)
+    flush(rt, text, held)?;
+    Ok(hex_bytes::write(s, text))
 }

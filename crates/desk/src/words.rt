@@ -1,9 +1,8 @@
 // The words of a question, with a single space between two.
 use crate::find::{find, part};
-use check::same;
 
 // The word i is from starts[i] to ends[i]. No question has more than seven words; more than eight are not counted.
-#[derive(Drop)]
+#[derive(Clone, Copy)]
 pub(crate) struct Words {
     pub(crate) starts: [usize; 8],
     pub(crate) ends: [usize; 8],
@@ -39,7 +38,7 @@ pub(crate) fn place(list: &[u8], word: &[u8]) -> usize {
     let mut i = 0;
     while from < list.len() {
         let end = find(list, from, b' ');
-        if same(part(list, from, end), word) {
+        if part(list, from, end) == word {
             return i;
         }
         from = end + 1;
