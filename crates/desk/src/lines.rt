@@ -74,10 +74,12 @@ fn read_behind<R: Read>(reader: &mut R, input: &mut [u8], kept: usize) -> Result
     reader.read(&mut input[kept..])
 }
 
-// Reads on in a line whose first `kept` bytes have no newline.
-fn read_more(reader: &mut impl Read, input: &mut [u8], kept: usize, passed: bool) -> Result<Lines>
+// Reads on in a line whose first `kept` bytes have no newline. A read that fails leaves these bytes, and what is not read yet.
+fn read_more<R: Read>(reader: &mut R, input: &mut [u8], kept: usize, passed: bool) -> Result<Lines>
     requires { kept ≤ length input.old }
-    ensures { IfOk result (λ l. Sound l (length input.old)) }
+    ensures ok { IfOk result (λ l. Sound l (length input.old)) }
+    ensures front { OnErr result (take kept input.new ≡ take kept input.old) }
+    ensures unread { OnErr result (Keeps (R.remaining reader.old) (R.remaining reader.new)) }
 {
     let got = read_behind(reader, input, kept)?;
     Ok(Lines {
@@ -96,10 +98,11 @@ fn too_long(l: Lines) -> bool
     l.passed || LONGEST < l.end - l.start
 }
 
-// The line's beginning goes to the front of the buffer, where it is kept, and more is read behind it.
-pub(crate) fn refill(reader: &mut impl Read, input: &mut [u8], l: Lines) -> Result<Lines>
+// The line's beginning goes to the front of the buffer, where it is kept, and more is read behind it. A read that fails leaves what is not read yet.
+pub(crate) fn refill<R: Read>(reader: &mut R, input: &mut [u8], l: Lines) -> Result<Lines>
     requires { Sound l (length input.old) }
-    ensures { IfOk result (λ m. Sound m (length input.old)) }
+    ensures ok { IfOk result (λ m. Sound m (length input.old)) }
+    ensures unread { OnErr result (Keeps (R.remaining reader.old) (R.remaining reader.new)) }
 {
     if too_long(l) {
         return read_more(reader, input, 0, true);

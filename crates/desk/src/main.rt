@@ -12,7 +12,8 @@ mod room;
 mod text;
 mod words;
 
-ghost use Rattle.std.specs.Prelude.{◌≤◌, length, IfOk};
+ghost use Rattle.std.specs.Prelude.{◌≤◌, length, IfOk, OnErr};
+ghost use Rattle.std.specs.Io.KnownBytes.{Keeps};
 ghost use Rattle.desk.specs.Reading.{Sound};
 
 use answers::answer_line;
@@ -66,17 +67,19 @@ fn finish(
     text::flush(rt, text, held)
 }
 
-// Answers the next line, or reads on where its end is not there yet. All that is held is written out before more is read.
-fn turn(
+// Answers the next line, or reads on where its end is not there yet. All that is held is written out before more is read. A read or a write that fails
+// leaves what is not read yet.
+fn turn<R: Read>(
     rt: &impl Print,
-    reader: &mut impl Read,
+    reader: &mut R,
     p: Progress,
     input: &mut [u8],
     out: &mut [u8],
     text: &mut [u8],
 ) -> Result<Progress>
     requires { Sound p.lines (length input.old) }
-    ensures { IfOk result (λ q. Sound q.lines (length input.old)) }
+    ensures ok { IfOk result (λ q. Sound q.lines (length input.old)) }
+    ensures unread { OnErr result (Keeps (R.remaining reader.old) (R.remaining reader.new)) }
 {
     let l = p.lines;
     let end = l.end;

@@ -1,7 +1,7 @@
 // Reads a region file on standard input and writes one line: whether no header can come through, or one that can.
 #![tactic(auto)]
 
-ghost use Rattle.std.specs.Prelude.{◌≡◌, ◌<◌, ◌≤◌, length, take, IfOk};
+ghost use Rattle.std.specs.Prelude.{◌≡◌, ◌<◌, ◌≤◌, ℕ, length, take, IfOk, OnErr};
 ghost use Rattle.std.specs.Io.KnownBytes.{Consumes, IsAtEnd};
 ghost use Rattle.format.specs.Limits.{widest_header};
 ghost use Rattle.format.specs.Told.{over};
@@ -26,11 +26,12 @@ fn ask(input: &[u8], header: &mut [u8]) -> Answer
     walk::region_empty(input, 1000000, header)
 }
 
-// Reads until `input` is full or there is no more to read, and gives how many bytes are read. They stand at the front.
+// Reads until `input` is full or there is no more to read, and gives how many bytes are read. They stand at the front, also where a read fails.
 fn read_full<R: Read>(reader: &mut R, input: &mut [u8]) -> Result<usize>
     ensures bound { IfOk result (λ n. n ≤ length input.old) }
     ensures bytes { IfOk result (λ n. Consumes (R.remaining reader.old) (R.remaining reader.new) (take n input.new)) }
     ensures end { IfOk result (λ n. n < length input.old → IsAtEnd (R.remaining reader.new)) }
+    ensures err { OnErr result ((n : ℕ) × Consumes (R.remaining reader.old) (R.remaining reader.new) (take n input.new)) }
 {
     let mut done = 0;
     while done < input.len() {
