@@ -5,9 +5,10 @@ ghost use Rattle.std.specs.Prelude.{◌≡◌, ◌+◌, ◌<◌, ◌≤◌, leng
 use itoa::Buffer;
 use std::io::Result;
 
-// Writes out what is held, after which nothing is.
+// Writes out what is held, after which nothing is. Where more is held than there is room for, nothing is written, so no write fails.
 pub(crate) fn flush(rt: &impl Print, text: &[u8], held: usize) -> Result<usize>
-    ensures { IfOk result (λ n. n ≤ length text.now) }
+    ensures ok { IfOk result (λ n. n ≤ length text.now) }
+    ensures none { length text.now < held → result ≡ Ok 0 }
 {
     if held <= text.len() {
         rt.write_all(&text[0..held])?;
@@ -33,8 +34,10 @@ pub(crate) fn put(rt: &impl Print, text: &mut [u8], held: usize, byte: u8) -> Re
     Ok(0)
 }
 
-// Holds the bytes of `s` too.
-pub(crate) fn put_all(rt: &impl Print, text: &mut [u8], held: usize, s: &[u8]) -> Result<usize> {
+// Holds the bytes of `s` too. No write is made where there is room for all of them.
+pub(crate) fn put_all(rt: &impl Print, text: &mut [u8], held: usize, s: &[u8]) -> Result<usize>
+    ensures { held + length s.now ≤ length text.old → result ≡ Ok (held + length s.now) }
+{
     let mut held = held;
     let mut i = 0;
     while i < s.len() {

@@ -20,7 +20,7 @@ walk_back-v-requires c =
 pub returns-in_default : goal.returns-in_default
 returns-in_default c =
     let v = c.walk_back-v in
-    cuts-stop c.loop-left.invariant c.loop-left-test.true v.result v.ensures
+    cuts-stop c.loop-left.invariant (omega (arith, c.loop-left-test.true)) v.result v.ensures
     c.in_default.not-Covered
 
 pub overflow_add-at-in-loop-left : goal.overflow_add-at-in-loop-left
@@ -36,7 +36,7 @@ loop-left-preserved c =
     let l = c.loop-left in
     let goes = c.loop-left-test in
     let v = c.walk_back-v in
-    cuts-turn l.invariant goes.true v.result v.ensures
+    cuts-turn l.invariant (omega (arith, c.loop-left-test.true)) v.result v.ensures
     c.in-Covered.is
 
 pub returns : goal.returns
