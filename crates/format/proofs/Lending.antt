@@ -121,24 +121,24 @@ module _ (s : List ℕ) (o : ℕ) (k : Rows Told) where
   file-passed z = skipped 1 (lent_file s o k) (z, tt)
 
 -- the result and the buffer
-pub silent-out : {t : Told} {r a : Answer} {old : List ℕ} → r ≡ a → silent a ≡ t → (r ≡ t.answer) × (old ≡ over old t.bytes)
-silent-out {old = old} e f = (e ∙ ap (λ (x : Told). x.answer) f, ap (λ (x : Told). over old x.bytes) f)
-
-pub told-out : {x t : Told} {r : Answer} (old : List ℕ) {new : List ℕ} → r ≡ x.answer → new ≡ over old x.bytes → x ≡ t
-    → (r ≡ t.answer) × (new ≡ over old t.bytes)
-told-out old e f g = (e ∙ ap (λ (y : Told). y.answer) g, f ∙ ap (λ (y : Told). over old y.bytes) g)
-
 pub silent-answer : {t : Told} {r a : Answer} → r ≡ a → silent a ≡ t → r ≡ t.answer
 silent-answer e f = e ∙ ap (λ (x : Told). x.answer) f
 
 pub silent-bytes : {t : Told} {a : Answer} {old : List ℕ} → silent a ≡ t → old ≡ over old t.bytes
 silent-bytes {old = old} f = ap (λ (x : Told). over old x.bytes) f
 
+pub silent-out : {t : Told} {r a : Answer} {old : List ℕ} → r ≡ a → silent a ≡ t → (r ≡ t.answer) × (old ≡ over old t.bytes)
+silent-out e f = (silent-answer e f, silent-bytes f)
+
 pub told-answer : {x t : Told} {r : Answer} → x ≡ t → r ≡ x.answer → r ≡ t.answer
 told-answer g e = e ∙ ap (λ (y : Told). y.answer) g
 
 pub told-bytes : {x t : Told} (old : List ℕ) {new : List ℕ} → x ≡ t → new ≡ over old x.bytes → new ≡ over old t.bytes
 told-bytes old g f = f ∙ ap (λ (y : Told). over old y.bytes) g
+
+pub told-out : {x t : Told} {r : Answer} (old : List ℕ) {new : List ℕ} → r ≡ x.answer → new ≡ over old x.bytes → x ≡ t
+    → (r ≡ t.answer) × (new ≡ over old t.bytes)
+told-out old e f g = (told-answer g e, told-bytes old g f)
 
 -- the length and the kind of a record, and all its numbers: r is what is wrong, or 0
 module _ (kind : ℕ) (s : List ℕ) (at r : ℕ) (e : r ≡ outcome (frame_rows kind s at)) where
