@@ -1,8 +1,8 @@
 -- The laws that the crate's proofs share.
-pub mod Meeting
 pub mod Taking
 pub mod Pieces
 pub mod Counting
+pub mod Stepping
 pub mod Running
 pub mod Operating
 pub mod Padded

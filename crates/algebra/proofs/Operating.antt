@@ -18,14 +18,13 @@ use Rattle.model.specs.Tidy.{tidy, each, tidy_region}
 use Rattle.model.specs.Algebra.{intersection, intersections, restored, subtraction, subtractions}
 use Rattle.model.proofs.Tidying.{each_append}
 use Rattle.cube.specs.Whole.{whole_at, wholes_at}
-use Rattle.region.specs.declared.front.Front.{Front}
 use Rattle.region.specs.Front.{front_at, whole_difference}
 use Rattle.region.specs.Ahead.{ahead}
 use Rattle.region.proofs.Strides.{steps-end, steps-turn}
-use Rattle.algebra.specs.Stops.{stop_at, bases_of}
+use Rattle.algebra.specs.Stops.{stop_at, bases_at, bases_of}
 use Rattle.algebra.specs.Totals.{stops, made, total}
 use Rattle.algebra.specs.declared.stop.Operation.TheVariants.{Tidy, Intersect, Less}
-use Rattle.algebra.proofs.Running.{stop-on, less-next}
+use Rattle.algebra.proofs.Stepping.{stop-on, less-next}
 
 abbrev pub whole_there : ℕ → List ℕ → ℕ → Difference
 whole_there q s at = whole_difference q s (front_at s at)
@@ -55,9 +54,9 @@ back-append false d r = refl
 
 module _ (q : ℕ) (s t : List ℕ) where
   -- tidying
-  tidy-made : (f : Front) (x : ℕ) → made Tidy q s t f x ≡ tidy (whole_difference q s f)
-  unfolding made stop_at bases_of wholes_at
-  tidy-made f x = simp append-nil refl
+  tidy-made : (d : Difference) (x : ℕ) → made Tidy q t d x ≡ tidy d
+  unfolding made stop_at bases_of bases_at wholes_at
+  tidy-made d x = simp append-nil refl
 
   pub tidy-stops : 0 < length t → stops Tidy q t 0 ≡ 0 ∷ []
   unfolding stop_at
@@ -68,56 +67,51 @@ module _ (q : ℕ) (s t : List ℕ) where
   unfolding total
   tidy-total a h =
       rw (tidy-stops h)
-      (each-tidied (λ b. made Tidy q s t (front_at s b) 0 ++ []) (λ d. d ∷ []) (whole_there q s)
-      (λ b. ap (λ (r : Region). r ++ []) (tidy-made (front_at s b) 0)) (ahead s a))
+      (each-tidied (λ b. made Tidy q t (whole_there q s b) 0 ++ []) (λ d. d ∷ []) (whole_there q s)
+      (λ b. ap (λ (r : Region). r ++ []) (tidy-made (whole_there q s b) 0)) (ahead s a))
       ∙ ap tidy_region (each-one (whole_region q s a))
 
   -- intersection
-  intersect-made : (f : Front) (x : ℕ) → made Intersect q s t f x ≡ tidy_region (intersection (whole_difference q s f) (whole_there q t x))
-  unfolding made stop_at bases_of intersection
-  intersect-made f x =
-      let a = whole_difference q s f in
-      let b = whole_there q t x in
-      piece-or (shares a.base b.base) (meet a.base b.base) (a.cuts ++ b.cuts)
+  intersect-made : (d : Difference) (x : ℕ) → made Intersect q t d x ≡ tidy_region (intersection d (whole_there q t x))
+  unfolding made stop_at bases_of bases_at intersection
+  intersect-made d x = let b = whole_there q t x in piece-or (shares d.base b.base) (meet d.base b.base) (d.cuts ++ b.cuts)
 
   pub intersect-total : (a x : ℕ) → total Intersect q s a t x ≡ tidy_region (intersections (whole_region q s a) (whole_region q t x))
   unfolding total stop_at
   intersect-total a x =
-      each-tidied (λ b. each (made Intersect q s t (front_at s b)) (ahead t x)) (λ d. each (intersection d) (whole_region q t x)) (whole_there q s)
-      (λ b. each-tidied (made Intersect q s t (front_at s b)) (intersection (whole_there q s b)) (whole_there q t) (intersect-made (front_at s b)) (ahead t x))
+      each-tidied (λ b. each (made Intersect q t (whole_there q s b)) (ahead t x)) (λ d. each (intersection d) (whole_region q t x)) (whole_there q s)
+      (λ b. each-tidied (made Intersect q t (whole_there q s b)) (intersection (whole_there q s b)) (whole_there q t) (intersect-made (whole_there q s b)) (ahead t x))
       (ahead s a)
 
   -- subtraction of a record whose base starts at b
   module _ (b : ℕ) (some : 1 ≤ q) where
-    less-base : (f : Front) → made (Less b) q s t f b ≡ tidy (less (whole_at q s f.base) (wholes_at q s (f.base + q) f.cuts ++ (whole_at q t b ∷ [])))
-    unfolding made stop_at bases_of wholes_at
-    less-base f = rw (eq-eqb b b refl) (append-nil _)
+    less-base : (d : Difference) → made (Less b) q t d b ≡ tidy (less d.base (d.cuts ++ (whole_at q t b ∷ [])))
+    unfolding made stop_at bases_of bases_at wholes_at
+    less-base d = rw (eq-eqb b b refl) (append-nil _)
 
-    less-cut : (f : Front) (x : ℕ) → b < x → let d = whole_difference q s f in
-        made (Less b) q s t f x ≡ tidy_region (cond (shares d.base (whole_at q t x)) (less (meet d.base (whole_at q t x)) d.cuts ∷ []) [])
-    unfolding made stop_at bases_of wholes_at
-    less-cut f x h =
-        let d = whole_difference q s f in
-        rw (ne_eqb x b (omega arith), append-nil d.cuts) (piece-or (shares d.base (whole_at q t x)) (meet d.base (whole_at q t x)) d.cuts)
+    less-cut : (d : Difference) (x : ℕ) → b < x
+        → made (Less b) q t d x ≡ tidy_region (cond (shares d.base (whole_at q t x)) (less (meet d.base (whole_at q t x)) d.cuts ∷ []) [])
+    unfolding made stop_at bases_of bases_at wholes_at
+    less-cut d x h = rw (ne_eqb x b (omega arith), append-nil d.cuts) (piece-or (shares d.base (whole_at q t x)) (meet d.base (whole_at q t x)) d.cuts)
 
     pub less-turn : (x : ℕ) → x < length t → stops (Less b) q t x ≡ x ∷ stops (Less b) q t (x + q)
     less-turn x h =
         steps-turn (λ y. (stop_at (Less b) q t y).next) (length t) (stop-on (Less b) q t some) x h
         ∙ ap (λ (y : ℕ). x ∷ stops (Less b) q t y) (less-next b q t x)
 
-    less-rest : (f : Front) (n x : ℕ) → b < x → x + n * q ≡ length t
-        → each (made (Less b) q s t f) (stops (Less b) q t x) ≡ tidy_region (restored (whole_difference q s f) (wholes_at q t x n))
+    less-rest : (d : Difference) (n x : ℕ) → b < x → x + n * q ≡ length t
+        → each (made (Less b) q t d) (stops (Less b) q t x) ≡ tidy_region (restored d (wholes_at q t x n))
     unfolding restored wholes_at
-    less-rest f zero x h e = rw (steps-end (λ y. (stop_at (Less b) q t y).next) (length t) x (omega arith))
-    less-rest f (suc n) x h e =
-        rw (less-turn x (omega arith), less-cut f x h, less-rest f n (x + q) (omega arith) (omega arith))
-        (back-append (shares (whole_at q s f.base) (whole_at q t x)) _ (restored (whole_difference q s f) (wholes_at q t (x + q) n)))
+    less-rest d zero x h e = rw (steps-end (λ y. (stop_at (Less b) q t y).next) (length t) x (omega arith))
+    less-rest d (suc n) x h e =
+        rw (less-turn x (omega arith), less-cut d x h, less-rest d n (x + q) (omega arith) (omega arith))
+        (back-append (shares d.base (whole_at q t x)) _ (restored d (wholes_at q t (x + q) n)))
 
     pub less-total : (a n : ℕ) → length t ≡ b + (n + 1) * q
         → total (Less b) q s a t b ≡ tidy_region (subtractions (whole_region q s a) (less (whole_at q t b) (wholes_at q t (b + q) n)))
     unfolding total
     less-total a n e =
-        each-tidied (λ c. each (made (Less b) q s t (front_at s c)) (stops (Less b) q t b))
+        each-tidied (λ c. each (made (Less b) q t (whole_there q s c)) (stops (Less b) q t b))
         (λ d. subtraction d (less (whole_at q t b) (wholes_at q t (b + q) n))) (whole_there q s)
-        (λ c. rw (less-turn b (omega arith), less-base (front_at s c), less-rest (front_at s c) n (b + q) (omega arith) (omega arith)))
+        (λ c. rw (less-turn b (omega arith), less-base (whole_there q s c), less-rest (whole_there q s c) n (b + q) (omega arith) (omega arith)))
         (ahead s a)

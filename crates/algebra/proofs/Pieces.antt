@@ -1,104 +1,131 @@
--- The base of a piece, and the piece tidied.
---   base-own, base-none, base-met   the base as it is, none, or met with the stop's cube
---   piece-none       there is no base, so no piece
---   piece-omitted, piece-covered    a cut of the first stretch covers the base; one of the second does
---   piece-kept       the piece tidied stands in the buffer
-use Prim.Native.Nat.{ℕ, ◌+◌, ◌-◌, ◌≤◌}
+-- A piece begun and made.
+--   begun-own, begun-none, begun-met    the base as it is; none; or met with a cube
+--   made-none, made-omitted, made-piece    there is no base, so no piece; a cut of the first stretch covers the base; the piece tidied
+--   record-out, record-put-behind    the record of a piece that does not fit, and one that does
+use Prim.Native.Nat.{ℕ, ◌+◌, ◌-◌, ◌*◌, ◌≤◌, ◌<◌}
 use native.Mathlib.Omega.{arith}
-use mathlib.Core.Path.{◌≡◌, sym, ap, ◌∙◌}
-use mathlib.Core.List.{List, [], ◌∷◌, ◌++◌, append-nil}
+use mathlib.Core.Path.{◌≡◌, refl, sym, ap, ◌∙◌}
+use mathlib.Core.List.{List, [], ◌++◌, map, append-nil}
 use mathlib.Core.Bool.{true, false}
-use lib.ListN.{length, take, drop}
-use lib.Seq.{take_at}
-use Rattle.model.specs.Cube.{shares}
+use lib.ListN.{length, get_or, take, drop, length-take, length-drop}
+use borrow.Rule.Slice.PartMut.{put_mid}
+use lib.Seq.{take_at, take_all}
+use Rattle.std.proofs.Common.{Option, Some, None}
+use Rattle.model.specs.Cube.{meet, shares}
+use Rattle.model.specs.Difference.{less}
 use Rattle.model.specs.Tidy.{tidy_from, tidy_region}
-use Rattle.format.specs.Limits.{most_cuts}
+use Rattle.format.specs.Limits.{widest_cube, most_cuts, taken_cuts}
 use Rattle.format.specs.Bytes.{codes}
-use Rattle.format.specs.Told.{over}
+use Rattle.format.specs.Records.{front_len, difference_bytes}
 use Rattle.cube.specs.Pair.{and_bytes, and_into}
+use Rattle.cube.specs.Row.{slices}
 use Rattle.cube.proofs.Codes.{codes-and, length-and}
 use Rattle.cube.proofs.Pairs.{into-over}
-use Rattle.cube.proofs.Wholes.{whole_part, part_length, wholes-back}
+use Rattle.cube.proofs.Rows.{slices-cubes}
+use Rattle.cube.proofs.Wholes.{whole_part, part_length}
 use Rattle.cube.specs.Whole.{cube_of, whole_at, wholes_at}
 use Rattle.cube.specs.Lay.{put}
-use Rattle.region.specs.declared.front.Front.{Front}
-use Rattle.algebra.specs.Tidied.{onward, held, Taken}
-use Rattle.algebra.specs.Stops.{bases_of, pieces_of, MadeOf}
-use Rattle.algebra.specs.declared.tidying.Made.{Made}
-use Rattle.algebra.specs.declared.tidying.Made.TheVariants.{Omitted, Kept}
+use Rattle.cube.proofs.Laying.{put-front, tail-back}
+use Rattle.region.specs.Writing.{longest_record, record_len, put_record}
+use Rattle.region.proofs.Writing.{all-bytes, cubes-few, record-len, record-longest, record-put, record-length}
+use Rattle.algebra.specs.Tidied.{base_in, kept_in, difference_in, onward, held, Taken, PutBehind}
+use Rattle.algebra.specs.Stops.{bases_at, bases_of, pieces_of, begun, Begun, MadeOf}
+use Rattle.algebra.specs.declared.piece.Piece.{Piece}
 use Rattle.algebra.specs.declared.stop.Stop.{Stop}
-use Rattle.cube.proofs.Laying.{put-fits, put-front, back-laid}
-use Rattle.algebra.proofs.Taking.{kept-most}
 
--- the base of the piece of the difference with the front f and the stop p, put into a buffer that held old
-module _ (q : ℕ) (s : List ℕ) (f : Front) (t : List ℕ) (p : Stop) (old new : List ℕ) (own : f.base + q ≤ length s) (room : q ≤ length old) where
-  -- bytes laid over the front of the buffer
-  front : (bytes : List ℕ) → length bytes ≡ q → new ≡ over old bytes → whole_at q new 0 ≡ codes bytes
-  unfolding whole_at cube_of
-  front bytes l e = rw e (ap codes (take_at bytes (drop (length bytes) old) q l))
+-- the piece old, begun anew with a base
+module _ (old new : Piece) (base t : List ℕ) (base-long : length base ≡ old.size) (room : old.size ≤ length old.cubes) (none : new.kept ≡ 0)
+    (size : new.size ≡ old.size) where
+  pub begun-own : new.cubes ≡ put old.cubes 0 base → Begun (bases_at old.size (codes base) t None) old new (Some tt)
+  unfolding bases_at whole_at cube_of
+  begun-own e = record { bases = rw (size, e, put-front old.cubes base old.size base-long room); none = none; size = size }
 
-  pub base-own : p.meets ≡ false → new ≡ put old 0 (take (f.base + q - f.base) (drop f.base s)) → whole_at q new 0 ∷ [] ≡ bases_of q s f t p
+  module _ (at : ℕ) (fits : at + old.size ≤ length t) where
+    pub begun-none : false ≡ shares (codes base) (codes (take (at + old.size - at) (drop at t))) → Begun (bases_at old.size (codes base) t (Some at)) old new None
+    unfolding bases_at
+    begun-none e = record { bases = rw (← rw (whole_part old.size t at) at e); none = none; size = size }
+
+    pub begun-met : true ≡ shares (codes base) (codes (take (at + old.size - at) (drop at t)))
+        → new.cubes ≡ and_into base (take (at + old.size - at) (drop at t)) old.cubes → Begun (bases_at old.size (codes base) t (Some at)) old new (Some tt)
+    unfolding bases_at whole_at cube_of
+    begun-met e n =
+        let cube = take (at + old.size - at) (drop at t) in
+        let l : length base ≡ length cube = base-long ∙ part_length old.size t at fits in
+        let bytes : take old.size new.cubes ≡ and_bytes base cube =
+        rw (n, into-over base cube old.cubes l (rw base-long room)) (take_at (and_bytes base cube) _ old.size (length-and base cube l ∙ base-long)) in
+        let met : codes (take old.size new.cubes) ≡ meet (codes base) (codes cube) = rw bytes (codes-and base cube l) in
+        record { bases = rw (← rw (whole_part old.size t at) at e, size, met, whole_part old.size t at); none = none; size = size }
+
+held-onward : (p : Piece) (m : Option Unit) → onward p m [] ≡ held p m
+unfolding onward tidy_from
+held-onward p None = refl
+held-onward p (Some u) = refl
+
+-- the rest of bytes, as it is lent, and the row of cubes in it
+lent-row : (q : ℕ) (s : List ℕ) (at n : ℕ) → map codes (slices q (take (length s - at) (drop at s)) n) ≡ wholes_at q s at n
+lent-row q s at n =
+    let l : length (drop at s) ≤ length s - at = simp length-drop (omega arith) in
+    rw (take_all (length s - at) (drop at s) l) (slices-cubes q s at n)
+
+-- the piece old, made anew: it begins with the base of a difference
+module _ (base : List ℕ) (row : List (List ℕ)) (t : List ℕ) (p : Stop) (old one : Piece) (m : Option Unit)
+    (start : Begun (bases_at old.size (codes base) t p.meets) old one m) where
+  bases-are : begun one m ≡ bases_of old.size (less (codes base) (map codes row)) t p
   unfolding bases_of
-  base-own m e =
-      let part = take (f.base + q - f.base) (drop f.base s) in
-      let l = sym (part_length q s f.base own) in
-      rw (m, front part l (e ∙ put-fits old 0 part (omega (arith, l))), whole_part q s f.base)
+  bases-are = start.bases
 
-  module _ (m : p.meets ≡ true) (cube : p.cube + q ≤ length t) where
-    pub base-none : false ≡ shares (codes (take (f.base + q - f.base) (drop f.base s))) (codes (take (p.cube + q - p.cube) (drop p.cube t)))
-        → [] ≡ bases_of q s f t p
-    unfolding bases_of
-    base-none e = rw (m, ← rw (whole_part q s f.base, whole_part q t p.cube) at e)
+  pub made-none : m ≡ None → MadeOf (less (codes base) (map codes row)) t p old one None
+  made-none e = record { tidied = rw (← bases-are, e); size = start.size }
 
-    pub base-met : true ≡ shares (codes (take (f.base + q - f.base) (drop f.base s))) (codes (take (p.cube + q - p.cube) (drop p.cube t)))
-        → new ≡ and_into (take (f.base + q - f.base) (drop f.base s)) (take (p.cube + q - p.cube) (drop p.cube t)) old
-        → whole_at q new 0 ∷ [] ≡ bases_of q s f t p
-    unfolding bases_of
-    base-met e n =
-        let x = take (f.base + q - f.base) (drop f.base s) in
-        let y = take (p.cube + q - p.cube) (drop p.cube t) in
-        let lx = sym (part_length q s f.base own) in
-        let ly = sym (part_length q t p.cube cube) in
-        let l : length x ≡ length y = lx ∙ sym ly in
-        let g = front (and_bytes x y) (length-and x y l ∙ lx) (n ∙ into-over x y old l (rw lx room)) ∙ codes-and x y l in
-        rw (m, ← rw (whole_part q s f.base, whole_part q t p.cube) at e, rw (whole_part q s f.base, whole_part q t p.cube) at g)
+  -- its cuts are taken
+  module _ (e : m ≡ Some tt) (two : Piece) (n : Option Unit) (first : Taken one (map codes row) two n) where
+    size-two : two.size ≡ old.size
+    size-two = first.size ∙ start.size
 
-pub piece-none : (q : ℕ) (s : List ℕ) (f : Front) (t : List ℕ) (p : Stop) (buf : List ℕ) → [] ≡ bases_of q s f t p → MadeOf q s f t p buf Omitted
-unfolding held
-piece-none q s f t p buf e = record { tidied = rw (← e); few = omega arith }
+    begins : tidy_region (pieces_of old.size (less (codes base) (map codes row)) t p) ≡ onward two n (wholes_at old.size t p.from p.cuts)
+    unfolding wholes_at
+    begins =
+        let empty : kept_in one ≡ [] = rw start.none in
+        rw (← bases-are, e, append-nil (tidy_from (base_in one) [] (map codes row ++ wholes_at old.size t p.from p.cuts)))
+        (rw empty at (first.goes (wholes_at old.size t p.from p.cuts)))
 
--- a piece with the base `base`: the cuts of its first stretch are taken, and then those of its second
-module _ (q : ℕ) (s : List ℕ) (f : Front) (t : List ℕ) (p : Stop) (base : List ℕ) (l : length base ≡ q) (is : codes base ∷ [] ≡ bases_of q s f t p)
-    (old mid : List ℕ) (m : Made) (n : ℕ) (first : Taken base old 0 (wholes_at (length base) s (f.base + q) f.cuts) mid m n) where
-  taken : tidy_region (pieces_of q s f t p) ≡ onward base mid m (wholes_at (length base) t p.from p.cuts)
-  unfolding wholes_at
-  taken =
-      rw (← is, append-nil (tidy_from (codes base) [] (wholes_at q s (f.base + q) f.cuts ++ wholes_at q t p.from p.cuts)))
-      (rw l at (first.goes (wholes_at (length base) t p.from p.cuts)))
-      ∙ ap (λ (n : ℕ). onward base mid m (wholes_at n t p.from p.cuts)) (sym l)
-
-  pub piece-omitted : m ≡ Omitted → MadeOf q s f t p mid Omitted
-  unfolding held onward
-  piece-omitted e = record { tidied = sym (rw e at taken); few = omega arith }
-
-  module _ (j : ℕ) (e : m ≡ Kept j) (back : List ℕ) (m2 : Made)
-      (second : Taken base mid j (wholes_at (length base) t p.from p.cuts) back m2 (j + p.cuts)) where
-    both : tidy_region (pieces_of q s f t p) ≡ onward base back m2 []
+    pub made-omitted : n ≡ None → MadeOf (less (codes base) (map codes row)) t p old two None
     unfolding onward
-    both = rw e at taken ∙ rw (append-nil (wholes_at (length base) t p.from p.cuts)) at (second.goes [])
+    made-omitted k = record { tidied = sym (rw k at begins); size = size-two }
 
-    pub piece-covered : m2 ≡ Omitted → MadeOf q s f t p back Omitted
-    unfolding held onward
-    piece-covered e2 = record { tidied = sym (rw e2 at both); few = omega arith }
+    -- and then those of the stop
+    module _ (k : n ≡ Some tt) (three : Piece) (o : Option Unit)
+        (second : Taken two (map codes (slices old.size (take (length t - p.from) (drop p.from t)) p.cuts)) three o) where
+      pub made-piece : MadeOf (less (codes base) (map codes row)) t p old three o
+      unfolding onward
+      made-piece =
+          let cuts = wholes_at old.size t p.from p.cuts in
+          let all = rw (lent-row old.size t p.from p.cuts, append-nil cuts) at (second.goes []) in
+          record { tidied = sym (rw k at begins ∙ all ∙ held-onward three o); size = second.size ∙ size-two }
 
-    pub piece-kept : (i : ℕ) → m2 ≡ Kept i → n ≤ most_cuts → p.cuts ≤ most_cuts → (new : List ℕ) → q ≤ length back
-        → new ≡ put back 0 base
-        → MadeOf q s f t p new (Kept i)
-    unfolding held onward whole_at cube_of tidy_from
-    piece-kept i e2 h k new room is-put =
-        let b : take q (drop 0 new) ≡ base = rw is-put (put-front back base q l room) in
-        let c : wholes_at q new q i ≡ wholes_at (length base) back (length base) i =
-        wholes-back q new back q i (rw (is-put, put-fits back 0 base (omega arith)) (back-laid back base 0 (omega arith) q (omega arith))) ∙ rw l in
-        let d = kept-most m j n e first.few in
-        let g = kept-most m2 i (j + p.cuts) e2 second.few in
-        record { tidied = rw (b, c) (sym (rw e2 at both)); few = omega arith }
+-- the record of a piece, which takes r bytes, behind o bytes of a buffer
+module _ (p : Piece) (few : p.kept ≤ most_cuts) (whole : length p.cubes ≡ (taken_cuts + 1) * widest_cube) (bytes : (i : ℕ) → get_or p.cubes i 0 < 256) (o r : ℕ)
+    (is : r ≡ record_len p.kept p.size) (out : List ℕ) where
+  cubes-there : (p.kept + 1) * p.size ≤ length p.cubes
+  cubes-there = omega (arith, cubes-few p.kept p.size few p.narrow, whole)
+
+  ends : o + r ≡ o + length (difference_bytes (4 * p.size) (difference_in p))
+  ends = ap (λ (n : ℕ). o + n) (is ∙ sym (record-length p.kept p.size few p.narrow p.cubes (all-bytes p.cubes bytes) cubes-there))
+
+  low : o + r ≤ o + longest_record
+  low = omega (arith, is, record-longest p.kept p.size few p.narrow)
+
+  pub record-out : length out < o + r → PutBehind p o out (o + r) out
+  record-out h = record { ends = ends; low = low; there = λ k. absurd (omega (arith, h, k)) }
+
+  pub record-put-behind : (new : List ℕ) → o + r ≤ length out → new ≡ put_record (take (length out - o) (drop o out)) p.cubes p.kept p.size
+      → PutBehind p o out (o + r) (put_mid o (length out - o) out new)
+  record-put-behind new h e =
+      let room : front_len p.kept + (p.kept + 1) * p.size ≤ length (take (length out - o) (drop o out)) =
+      simp (length-take, length-drop) (omega (arith, is, record-len p.kept p.size few p.narrow)) in
+      record {
+        ends = ends;
+        low = low;
+        there = λ k. tail-back out (difference_bytes (4 * p.size) (difference_in p)) new o _ refl
+            (e ∙ record-put p.kept p.size few p.narrow _ p.cubes cubes-there room (all-bytes p.cubes bytes));
+      }

@@ -1,114 +1,142 @@
--- Going over the pairs of a result.
---   less-next, less-room       the stops of subtraction: the next one, and that a cube that stands has room
---   stop-on                    the next stop is further on
---   left                       what the pairs from one on make
---   left-begin, left-stop, left-turn, left_end    at the first pair, with a stop more, with a record more, at the end
---   Going                      == what holds at a pair: the pairs before it made `done`, which is counted and written
---   records-turn, stops-turn   the record and the stop here stand within their operands, and so do those after them
---   pairs-less                 the measure falls with the next record
-use Prim.Native.Nat.{ℕ, ◌+◌, ◌-◌, ◌*◌, ◌≤◌, ◌<◌}
-use native.Mathlib.Nat.{mul-le-mul_right}
-use native.Mathlib.Omega.{arith}
-use mathlib.Core.Path.{◌≡◌, refl, sym, ◌∙◌}
-use mathlib.Core.List.{List, [], ◌++◌, append_assoc}
-use mathlib.Core.Bool.{Bool, true, false, cond, true≢false}
-use lib.Dec.{ltb, eqb}
-use borrow.Author.Tests.{lt-ltb, le-ltb, ltb-true, ltb-false}
-use lib.ListN.{length}
-use Rattle.model.specs.Difference.{Region}
-use Rattle.model.specs.Tidy.{each}
+-- Adding what all pairs make.
+--   pair q d t p            == what the difference d makes with the stop p
+--   made-pairs              what it makes with all stops
+--   Pairs                   == what holds at a stop: the stops before it made `done`, which is added, and the others make the rest
+--   pairs-begin, pairs-omitted, pairs-added, pairs-refused, pairs-end    at the first stop, after a stop, and after the last
+--   Records                 == what holds at a record: the records before it made `done`, which is counted, and the others make the rest
+--   records-begin, records-added, records-refused, records-end    at the first record, after a record, and after the last
+use Prim.Native.Nat.{ℕ}
+use mathlib.Core.Path.{◌≡◌, refl, sym, ap, ◌∙◌}
+use mathlib.Core.List.{List, [], ◌∷◌, ◌++◌, map, append-nil, append_assoc}
+use mathlib.Core.Bool.{Bool, true, false}
+use Rattle.std.proofs.Common.{Option, Some, None, Result, Ok, Err, is_some, subst}
+use Rattle.answer.specs.declared.refusal.Refusal.{Refusal}
+use Rattle.model.specs.Difference.{Difference, Region}
+use Rattle.model.specs.Sized.{All}
+use Rattle.model.specs.Tidy.{each, tidy_region}
 use Rattle.region.specs.declared.front.Front.{Front}
-use Rattle.region.specs.Front.{front_at, Stands}
-use Rattle.region.proofs.Strides.{steps-end, steps-turn}
-use Rattle.region.proofs.Onward.{ahead-end, ahead-next}
-use Rattle.algebra.specs.Stops.{stop_at, base_stop, cut_stop, Room}
-use Rattle.algebra.specs.Tidied.{taken_bytes}
-use Rattle.algebra.specs.Totals.{stops, made, total, RecordsStand, StopsStand, Counted}
-use Rattle.algebra.specs.declared.run.Totals.{Totals}
-use Rattle.algebra.specs.declared.stop.Stop.{Stop}
+use Rattle.region.specs.Front.{front_at, Stands, whole_difference}
+use Rattle.region.specs.Ahead.{ahead}
+use Rattle.algebra.specs.Stops.{stop_at, Room, pieces_of, MadeOf}
+use Rattle.algebra.specs.Tidied.{difference_in, held}
+use Rattle.algebra.specs.Totals.{stops, made, total, Counts, Counted, Adds}
+use Rattle.algebra.specs.declared.piece.Piece.{Piece}
 use Rattle.algebra.specs.declared.stop.Operation.{Operation}
-use Rattle.algebra.specs.declared.stop.Operation.TheVariants.{Tidy, Intersect, Less}
+use Rattle.algebra.specs.declared.stop.Stop.{Stop}
+use Rattle.algebra.specs.declared.totals.Totals.{Totals}
+use Rattle.algebra.proofs.Counting.{AddsTo, long-append, counts-none, add-none, adds-both, adds-over}
+use Rattle.algebra.proofs.Stepping.{each-map, all-map}
 
--- stops
-module _ (b q : ℕ) (t : List ℕ) (x : ℕ) where
-  less-stop : (P : Stop → Type 0) → P (base_stop q x) → P (cut_stop q x) → P (stop_at (Less b) q t x)
-  unfolding stop_at
-  less-stop P f g = go (eqb x b)
-    where
-      go : (c : Bool) → P (cond c (base_stop q x) (cut_stop q x))
-      go true = f
-      go false = g
+abbrev pub pair : ℕ → Difference → List ℕ → Stop → Region
+pair q d t p = tidy_region (pieces_of q d t p)
 
-  pub less-next : (stop_at (Less b) q t x).next ≡ x + q
-  less-next = less-stop (λ p. p.next ≡ x + q) refl refl
+-- all stops, as they are gone over
+pub made-pairs : (o : Operation) (q : ℕ) (t : List ℕ) (d : Difference) (x : ℕ) (all : List Stop) (old : List ℕ) (first : Totals) (new : List ℕ)
+    (r : Result Totals Refusal) → all ≡ map (stop_at o q t) (stops o q t x) → Adds q (each (pair q d t) all) old first new r
+    → Adds q (each (made o q t d) (stops o q t x)) old first new r
+unfolding made
+made-pairs o q t d x all old first new r e =
+    subst (λ (g : Region). Adds q g old first new r) (ap (each (pair q d t)) e ∙ each-map (pair q d t) (stop_at o q t) (stops o q t x))
 
-  pub less-room : x + q ≤ length t → Room q t (stop_at (Less b) q t x)
-  less-room h =
-      less-stop (Room q t)
-      (record { cube = λ e. absurd (true≢false (sym e)); cuts = omega arith; few = omega arith })
-      (record { cube = λ e. h; cuts = omega arith; few = omega arith })
-
-pub stop-on : (o : Operation) (q : ℕ) (t : List ℕ) → 1 ≤ q → (x : ℕ) → x < length t → x < (stop_at o q t x).next
-unfolding stop_at
-stop-on Tidy q t h x l = l
-stop-on Intersect q t h x l = omega arith
-stop-on (Less b) q t h x l = rw (less-next b q t x) (omega arith)
-
--- the pairs of a record of s, from a on, and a stop in t, from y on; each record begins with the stop x
-module _ (o : Operation) (q : ℕ) (s t : List ℕ) (x : ℕ) where
-  unfoldable pub left : ℕ → ℕ → Region
-  left a y = cond (ltb a (length s)) (each (made o q s t (front_at s a)) (stops o q t y) ++ total o q s (front_at s a).next t x) []
-
-  pub left_end : (a y : ℕ) → length s ≤ a → left a y ≡ []
-  unfolding left
-  left_end a y h = rw (le-ltb a (length s) h)
-
-  here : (a y : ℕ) → a < length s → left a y ≡ each (made o q s t (front_at s a)) (stops o q t y) ++ total o q s (front_at s a).next t x
-  unfolding left
-  here a y h = rw (lt-ltb a (length s) h)
-
-  pub left-begin : (a : ℕ) → total o q s a t x ≡ left a x
-  unfolding total
-  left-begin a = go (ltb a (length s)) refl
-    where
-      go : (b : Bool) → ltb a (length s) ≡ b → total o q s a t x ≡ left a x
-      go true e = let h = ltb-true a (length s) e in rw (ahead-next s a h) (sym (here a x h))
-      go false e = let h = ltb-false a (length s) e in rw (ahead-end s a h) (sym (left_end a x h))
-
-  pub left-stop : 1 ≤ q → (a y : ℕ) → a < length s → y < length t
-      → left a y ≡ made o q s t (front_at s a) y ++ left a (stop_at o q t y).next
-  left-stop k a y h l =
-      let n = (stop_at o q t y).next in
-      here a y h
-      ∙ rw (steps-turn (λ z. (stop_at o q t z).next) (length t) (stop-on o q t k) y l, here a n h)
-      (append_assoc (made o q s t (front_at s a) y) (each (made o q s t (front_at s a)) (stops o q t n)) (total o q s (front_at s a).next t x))
-
-  pub left-turn : (a y : ℕ) → a < length s → length t ≤ y → left a y ≡ left (front_at s a).next x
-  left-turn a y h l = here a y h ∙ rw (steps-end (λ z. (stop_at o q t z).next) (length t) y l) (left-begin (front_at s a).next)
-
-pub record Going (o : Operation) (q : ℕ) (s : List ℕ) (a : ℕ) (t : List ℕ) (x : ℕ) (old out buf : List ℕ) (sum : Totals) (at : ℕ) (f : Front) (y : ℕ)
-    : Type 0 where
-  pub kept : length out ≡ length old
-  pub buffer : length buf ≡ taken_bytes
-  pub short : sum.long ≡ false
-  pub front : f ≡ front_at s at
-  pub records : RecordsStand q s at
-  pub stands : StopsStand o q t y
+pub record Pairs (q : ℕ) (d : Difference) (t : List ℕ) (all : List Stop) (old : List ℕ) (first : Totals) (rest : List Stop) (out : List ℕ) (sum : Totals)
+    (piece : Piece) : Type 0 where
+  pub size : piece.size ≡ q
+  pub stands : All (Room q t) rest
   pub done : Region
-  pub made : total o q s a t x ≡ done ++ left o q s t x at y
-  pub counted : Counted q done old out sum
+  pub made : each (pair q d t) all ≡ done ++ each (pair q d t) rest
+  pub adds : AddsTo q done old first out sum
 
--- records and stops within their operands
-pub records-turn : (q : ℕ) (s : List ℕ) (a : ℕ) → a < length s → RecordsStand q s a
-    → Stands q s (front_at s a) × RecordsStand q s (front_at s a).next
-records-turn q s a h f = rw (ahead-next s a h) at f
+module _ (q : ℕ) (d : Difference) (t : List ℕ) (all : List Stop) (old : List ℕ) (first : Totals) where
+  pub pairs-begin : (piece : Piece) → piece.size ≡ q → All (Room q t) all → Pairs q d t all old first all old first piece
+  pairs-begin piece e a = record { size = e; stands = a; done = []; made = refl; adds = add-none q old first }
 
-pub stops-turn : (o : Operation) (q : ℕ) (t : List ℕ) (y : ℕ) → 1 ≤ q → y < length t → StopsStand o q t y
-    → Room q t (stop_at o q t y) × StopsStand o q t (stop_at o q t y).next
-stops-turn o q t y k l f = rw (steps-turn (λ z. (stop_at o q t z).next) (length t) (stop-on o q t k) y l) at f
+  module _ (rest : List Stop) (out : List ℕ) (sum : Totals) (piece : Piece) (v : Pairs q d t all old first rest out sum piece) where
+    module _ (p : Stop) (ps : List Stop) (e : rest ≡ p ∷ ps) (two : Piece) (m : Option Unit) (made : MadeOf d t p piece two m) (b : Bool) (is : b ≡ is_some m) where
+      whole : each (pair q d t) all ≡ (v.done ++ held two m) ++ each (pair q d t) ps
+      whole =
+          v.made
+          ∙ rw (e, ← rw v.size at made.tidied) (sym (append_assoc v.done (held two m) (each (pair q d t) ps)))
 
--- the measure: the records left, each with all stops, and the stops left of this one
-pub pairs-less : (n m a b x y : ℕ) → a < n → a < b → m ≤ y → (n - b) * (m + 1) + (m - x) < (n - a) * (m + 1) + (m - y)
-pairs-less n m a b x y h l k =
-    let e : n - b + 1 ≤ n - a = omega arith in
-    omega (arith, mul-le-mul_right (m + 1) e)
+      turn : (r : Region) → held two m ≡ r → (new : List ℕ) (next : Totals) → AddsTo q r out sum new next → Pairs q d t all old first ps new next two
+      turn r h new next a =
+          record {
+            size = made.size ∙ v.size;
+            stands = (rw e at v.stands).1;
+            done = v.done ++ r;
+            made = rw h at whole;
+            adds = adds-both q v.done r old first out sum new (Ok next) v.adds a;
+          }
+
+      kept : (n : Option Unit) → is_some n ≡ true → held two n ≡ difference_in two ∷ []
+      kept None k = cc
+      kept (Some u) k = refl
+
+      omitted : (n : Option Unit) → is_some n ≡ false → held two n ≡ []
+      omitted None k = refl
+      omitted (Some u) k = cc
+
+      pub pairs-omitted : b ≡ false → Pairs q d t all old first ps out sum two
+      pairs-omitted k = turn [] (omitted m (sym is ∙ k)) out sum (add-none q out sum)
+
+      module _ (k : b ≡ true) (new : List ℕ) (x : Result Totals Refusal) (adds : Adds two.size (difference_in two ∷ []) out sum new x) where
+        added : Adds q (difference_in two ∷ []) out sum new x
+        added = subst (λ (n : ℕ). Adds n (difference_in two ∷ []) out sum new x) (made.size ∙ v.size) adds
+
+        pub pairs-added : (next : Totals) → x ≡ Ok next → Pairs q d t all old first ps new next two
+        pairs-added next i = turn (difference_in two ∷ []) (kept m (sym is ∙ k)) new next (rw i at added)
+
+        pub pairs-refused : (r : Refusal) → x ≡ Err r → Adds q (each (pair q d t) all) old first new (Err r)
+        pairs-refused r i =
+            rw (whole, kept m (sym is ∙ k))
+            (adds-over q (v.done ++ (difference_in two ∷ [])) (each (pair q d t) ps) old first new new r
+            (adds-both q v.done (difference_in two ∷ []) old first out sum new (Err r) v.adds (rw i at added)))
+
+    pub pairs-end : rest ≡ [] → Adds q (each (pair q d t) all) old first out (Ok sum)
+    pairs-end e = rw (v.made, e, append-nil v.done) v.adds
+
+-- what a record makes with all stops
+abbrev pub row : Operation → ℕ → List ℕ → List ℕ → ℕ → Front → Region
+row o q s t x f = each (made o q t (whole_difference q s f)) (stops o q t x)
+
+pub record Records (o : Operation) (q : ℕ) (s t : List ℕ) (x : ℕ) (all : Region) (old : List ℕ) (rest : List Front) (out : List ℕ) (sum : Totals) (piece : Piece)
+    : Type 0 where
+  pub size : piece.size ≡ q
+  pub stands : All (Stands q s) rest
+  pub done : Region
+  pub made : all ≡ done ++ each (row o q s t x) rest
+  pub counts : Counts q done old out sum
+
+module _ (o : Operation) (q : ℕ) (s t : List ℕ) (x : ℕ) where
+  pub records-begin : (a : ℕ) (rest : List Front) (out : List ℕ) (sum : Totals) (piece : Piece) → rest ≡ map (front_at s) (ahead s a) → piece.size ≡ q
+      → All (λ b. Stands q s (front_at s b)) (ahead s a) → sum.count ≡ 0 → sum.size ≡ 0 → Records o q s t x (total o q s a t x) out rest out sum piece
+  unfolding total
+  records-begin a rest out sum piece e k stand c z =
+      record {
+        size = k;
+        stands = rw e (all-map (Stands q s) (front_at s) (ahead s a) stand);
+        done = [];
+        made = rw e (sym (each-map (row o q s t x) (front_at s) (ahead s a)));
+        counts = counts-none q out sum c z;
+      }
+
+  module _ (all : Region) (old : List ℕ) (rest : List Front) (out : List ℕ) (sum : Totals) (piece : Piece) (v : Records o q s t x all old rest out sum piece) where
+    module _ (f : Front) (fs : List Front) (e : rest ≡ f ∷ fs) (new : List ℕ) (r : Result Totals Refusal)
+        (d : Difference) (is : d ≡ whole_difference piece.size s f) (adds : Adds piece.size (each (made o piece.size t d) (stops o piece.size t x)) out sum new r) where
+      added-row : Counted q (v.done ++ row o q s t x f) old new r
+      added-row =
+          let here : Adds piece.size (row o piece.size s t x f) out sum new r =
+          subst (λ (e : Difference). Adds piece.size (each (made o piece.size t e) (stops o piece.size t x)) out sum new r) is adds in
+          (subst (λ (n : ℕ). Adds n (row o n s t x f) out sum new r) v.size here) v.done old v.counts
+
+      whole-row : all ≡ (v.done ++ row o q s t x f) ++ each (row o q s t x) fs
+      whole-row = v.made ∙ rw e (sym (append_assoc v.done (row o q s t x f) (each (row o q s t x) fs)))
+
+      pub records-added : (two : Piece) → two.size ≡ piece.size → (next : Totals) → r ≡ Ok next → Records o q s t x all old fs new next two
+      records-added two k next i =
+          record { size = k ∙ v.size; stands = (rw e at v.stands).1; done = v.done ++ row o q s t x f; made = whole-row; counts = rw i at added-row }
+
+      pub records-refused : (k : Refusal) → r ≡ Err k → Counted q all old new (Err k)
+      records-refused k i = let c = rw i at added-row in (rw whole-row (long-append (v.done ++ row o q s t x f) (each (row o q s t x) fs) ∙ rw c.0), c.1)
+
+    pub records-end : rest ≡ [] → Counted q all old out (Ok sum)
+    records-end e = rw (v.made, e, append-nil v.done) v.counts

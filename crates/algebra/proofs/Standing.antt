@@ -9,7 +9,7 @@ use Prim.Native.Nat.{ℕ, zero, suc, ◌+◌, ◌*◌, ◌≤◌, ◌<◌}
 use native.Mathlib.Omega.{arith}
 use mathlib.Core.Path.{◌≡◌, refl, sym, ap, ap₂, ◌∙◌}
 use mathlib.Core.List.{List, [], ◌∷◌, map}
-use mathlib.Core.Bool.{true, true≢false}
+use mathlib.Core.Bool.{true}
 use lib.ListN.{length, length-map}
 use Rattle.model.specs.Difference.{Region}
 use Rattle.model.specs.Sized.{All, Good}
@@ -36,7 +36,7 @@ use Rattle.algebra.specs.Stops.{stop_at, Room}
 use Rattle.algebra.specs.Totals.{total, RecordsStand, StopsStand, Stand}
 use Rattle.algebra.specs.Results.{whole_rows}
 use Rattle.algebra.specs.declared.stop.Operation.TheVariants.{Tidy, Intersect, Less}
-use Rattle.algebra.proofs.Running.{less-room}
+use Rattle.algebra.proofs.Stepping.{less-room}
 use Rattle.algebra.proofs.Operating.{whole_there, whole_region, tidy-stops, tidy-total, intersect-total, less-turn, less-total}
 use Rattle.algebra.proofs.Padded.{bytes-padded, long-padded}
 
@@ -77,14 +77,14 @@ module _ (w : ℕ) (some : 1 ≤ w) (narrow : w ≤ widest) where
   pub tidy-stand : {s : List ℕ} {a : ℕ} {r : Region} (t : List ℕ) → Runs w s a r → 0 < length t → Stand Tidy (cube_len w) s a t 0
   unfolding stop_at
   tidy-stand {s = s} t r h =
-      let room : Room (cube_len w) t (stop_at Tidy (cube_len w) t 0) = record { cube = λ e. absurd (true≢false (sym e)); cuts = omega arith; few = omega arith } in
+      let room : Room (cube_len w) t (stop_at Tidy (cube_len w) t 0) = record { cube = λ y e. cc; cuts = omega arith; few = omega arith } in
       record { some = omega arith; wide = omega arith; records = r.stand; stands = rw (tidy-stops (cube_len w) s t h) (room, tt) }
 
   intersect-all : (t : List ℕ) (xs : List ℕ) → All (λ x. Stands (cube_len w) t (front_at t x)) xs
       → All (λ x. Room (cube_len w) t (stop_at Intersect (cube_len w) t x)) xs
   unfolding stop_at
   intersect-all t [] a = tt
-  intersect-all t (x ∷ xs) a = (record { cube = λ e. omega arith; cuts = omega arith; few = a.0.few }, intersect-all t xs a.1)
+  intersect-all t (x ∷ xs) a = (record { cube = λ y e. let same : (front_at t x).base ≡ y = cc in omega arith; cuts = omega arith; few = a.0.few }, intersect-all t xs a.1)
 
   pub intersect-stand : {s t : List ℕ} {a x : ℕ} {r p : Region} → Runs w s a r → Runs w t x p → Stand Intersect (cube_len w) s a t x
   unfolding stop_at

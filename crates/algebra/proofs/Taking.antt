@@ -1,106 +1,191 @@
 -- Taking the next cut of a piece.
---   cut_apart, cut-covered, cut_again, cut-more   what becomes of it: dropped, the difference omitted, dropped, or kept behind the others
---   slot base k      == where the next cut goes that is kept
---   TakesOn base old k cs now j ds == the cuts cs, taken with k kept in `old`, come to the cuts ds, to be taken with j
---                    kept in `now`
---   row_kept, row-omitted, row-taken    a turn of taking a row of cuts: the next taken, the base covered, none left
---   kept-most        a piece of which at most n cuts are kept keeps no more
---   row_fits         where a row fits, a shorter one fits
-use Prim.Native.Nat.{ℕ, ◌+◌, ◌-◌, ◌*◌, ◌≤◌, ◌<◌}
-use native.Mathlib.Nat.{mul-le-mul_right}
+--   same-base, same-kept     pieces with the same bytes have the same base and the same cuts
+--   cut-apart, cut-covered, cut-again, cut-more   what becomes of a cut: dropped, the difference omitted, dropped, or kept behind the others
+--   among-any                looking for a cut in a row
+--   TakesOn old cs now ds == the cuts cs, to be taken into the piece old, come to the cuts ds, to be taken into the piece now
+--   row-kept, row-omitted, row-taken    a turn of taking a row of cuts: the next taken, the base covered, none left
+--   row-few                  no more cuts are kept than there are in the row
+--   AllLong q bs          == the cubes bs have q bytes each
+--   slices-long              those of a row have
+use Prim.Native.Nat.{ℕ, zero, suc, ◌+◌, ◌*◌, ◌≤◌, ◌<◌}
 use native.Mathlib.Omega.{arith}
-use mathlib.Core.Path.{◌≡◌, ap, ◌∙◌}
-use mathlib.Core.List.{List, [], ◌∷◌, ◌++◌}
-use mathlib.Core.Bool.{true, false}
-use lib.ListN.{length, take, drop}
+use mathlib.Core.Path.{◌≡◌, refl, sym, ap, ap₂, ◌∙◌}
+use mathlib.Core.List.{List, [], ◌∷◌, ◌++◌, map}
+use mathlib.Core.Bool.{true, false, ◌||◌}
+use lib.ListN.{length, take, drop, length-drop, length-map}
+use native.Mathlib.Nat.{mul-le-mul}
+use lib.Seq.{take_at, drop_at, take_all, length-take-le, drop-drop}
+use Rattle.std.proofs.Common.{Option, Some, None}
+use Rattle.std.specs.List.{list_any}
 use Rattle.model.specs.Cube.{Cube, meet, shares, same}
+use Rattle.model.specs.Sized.{All}
 use Rattle.model.specs.Tidy.{among, tidy_from}
+use Rattle.format.specs.Limits.{widest_cube, taken_cuts}
 use Rattle.format.specs.Bytes.{codes}
-use Rattle.cube.specs.Pair.{and_bytes}
+use Rattle.cube.specs.Pair.{and_bytes, and_into}
+use Rattle.cube.specs.Row.{slices}
 use Rattle.cube.specs.Whole.{cube_of, whole_at, wholes_at}
-use Rattle.cube.specs.Lay.{laid}
-use Rattle.algebra.specs.Tidied.{kept_in, onward, most, Taken}
-use Rattle.algebra.specs.declared.tidying.Made.{Made}
-use Rattle.algebra.specs.declared.tidying.Made.TheVariants.{Omitted, Kept}
-use Rattle.cube.proofs.Laying.{front-laid, here-laid}
-use Rattle.cube.proofs.Wholes.{wholes-turn, wholes-none, wholes-more, wholes-front}
-use Rattle.algebra.proofs.Meeting.{met-codes, met-length}
+use Rattle.cube.proofs.Codes.{codes-and, length-and}
+use Rattle.cube.proofs.Pairs.{into-over}
+use Rattle.cube.proofs.Rows.{slices-cubes, slices-length}
+use Rattle.cube.proofs.Wholes.{wholes-same, wholes-more}
+use Rattle.algebra.specs.Tidied.{base_in, kept_in, onward, Taken}
+use Rattle.algebra.specs.declared.piece.Piece.{Piece}
 
-abbrev pub slot : List ℕ → ℕ → ℕ
-slot base k = length base + k * length base
+-- what a cut comes to
+module _ (base : Cube) (ks : List Cube) (cut : Cube) (later : List Cube) where
+  tidy-apart : false ≡ shares base cut → tidy_from base ks (cut ∷ later) ≡ tidy_from base ks later
+  unfolding tidy_from
+  tidy-apart e = rw (← e)
 
--- the base, the next cut in s, and the k cuts kept in the buffer `old`
-module _ (base s old : List ℕ) (at k : ℕ) where
-  pub cut_apart : false ≡ shares (codes base) (whole_at (length base) s at) → Taken base old k (whole_at (length base) s at ∷ []) old (Kept k) (k + 1)
-  unfolding tidy_from onward
-  cut_apart e = record { goes = λ later. rw (← e); few = omega arith }
+  module _ (meets : true ≡ shares base cut) where
+    tidy-covered : true ≡ same (meet base cut) base → tidy_from base ks (cut ∷ later) ≡ []
+    unfolding tidy_from
+    tidy-covered e = rw (← meets, ← e)
 
-  -- the buffer `new`, with the cut met with the base behind those that are kept
-  module _ (fits : at + length base ≤ length s) (room : (k + 2) * length base ≤ length old) (meets : true ≡ shares (codes base) (whole_at (length base) s at))
-      (new : List ℕ) (put : new ≡ laid old (slot base k) (and_bytes base (take (length base) (drop at s)))) where
-    size : length (and_bytes base (take (length base) (drop at s))) ≡ length base
-    size = met-length base s at fits
+    module _ (other : false ≡ same (meet base cut) base) where
+      tidy-again : true ≡ among (meet base cut) ks → tidy_from base ks (cut ∷ later) ≡ tidy_from base ks later
+      unfolding tidy_from
+      tidy-again e = rw (← meets, ← other, ← e)
 
-    here : whole_at (length base) new (slot base k) ≡ meet (codes base) (whole_at (length base) s at)
-    here =
-        unfold whole_at cube_of in
-        let h = here-laid old (and_bytes base (take (length base) (drop at s))) (slot base k) (omega (arith, size)) (length base) size in
-        rw put (ap codes h ∙ met-codes base s at fits)
+      tidy-more : false ≡ among (meet base cut) ks → tidy_from base ks (cut ∷ later) ≡ tidy_from base (ks ++ (meet base cut ∷ [])) later
+      unfolding tidy_from
+      tidy-more e = rw (← meets, ← other, ← e)
 
-    still : kept_in base new k ≡ kept_in base old k
-    still =
-        wholes-front (length base) (slot base k) new old (length base) k (omega arith)
-        (rw put (front-laid old (and_bytes base (take (length base) (drop at s))) (slot base k) (omega (arith, size)) (slot base k) (omega arith)))
+-- pieces whose bytes begin alike
+module _ (old new : Piece) (size : new.size ≡ old.size) where
+  same-base : (base x y : List ℕ) → old.cubes ≡ base ++ x → new.cubes ≡ base ++ y → length base ≡ old.size → (base_in old ≡ codes base) × (base_in new ≡ codes base)
+  unfolding whole_at cube_of
+  same-base base x y e f l = (rw e (ap codes (take_at base x old.size l)), rw (f, size) (ap codes (take_at base y old.size l)))
 
-    pub cut-covered : true ≡ same (whole_at (length base) new (slot base k)) (codes base)
-        → Taken base old k (whole_at (length base) s at ∷ []) new Omitted (k + 1)
-    unfolding tidy_from onward
-    cut-covered e = record { goes = λ later. rw (← meets, ← here, ← e); few = omega arith }
+-- the cubes of a row behind a base
+row-behind : (q k : ℕ) (base bytes rest : List ℕ) → length base ≡ q → length bytes ≡ k * q
+    → wholes_at q (base ++ (bytes ++ rest)) q k ≡ map codes (slices q bytes k)
+row-behind q k base bytes rest l m =
+    wholes-same q k (base ++ (bytes ++ rest)) bytes q 0
+    (rw (drop_at base (bytes ++ rest) q l) (take_at bytes rest (k * q) m ∙ sym (take_all (k * q) bytes (omega arith))))
+    ∙ sym (slices-cubes q bytes 0 k)
 
-    module _ (other : false ≡ same (whole_at (length base) new (slot base k)) (codes base)) where
-      pub cut_again : true ≡ among (whole_at (length base) new (slot base k)) (kept_in base new k)
-          → Taken base old k (whole_at (length base) s at ∷ []) new (Kept k) (k + 1)
-      unfolding tidy_from onward
-      cut_again e = record { goes = λ later. rw (← meets, ← here, ← other, ← still, ← e); few = omega arith }
+-- looking for a cube in a row
+among-any : (c : List ℕ) (bs : List (List ℕ)) → list_any (λ b. same (codes c) (codes b)) bs ≡ among (codes c) (map codes bs)
+among-any c [] = refl
+among-any c (b ∷ bs) = ap (λ t. same (codes c) (codes b) || t) (among-any c bs)
 
-      pub cut-more : false ≡ among (whole_at (length base) new (slot base k)) (kept_in base new k)
-          → Taken base old k (whole_at (length base) s at ∷ []) new (Kept (k + 1)) (k + 1)
-      unfolding tidy_from onward
-      cut-more e =
+-- the buffer has room for one cut more
+slot-room : (k q rest slot : ℕ) → k < taken_cuts → q ≤ widest_cube → slot + k * q ≡ rest → rest + q ≡ (taken_cuts + 1) * widest_cube → q ≤ slot
+slot-room k q rest slot h l m n = let e : k + 2 ≤ taken_cuts + 1 = omega arith in omega (arith, mul-le-mul {n₂ = taken_cuts + 1} {m₂ = widest_cube} e l)
+
+-- the piece old, whose bytes are the base, those of its cuts, and others, over which a cut was met with the base
+module _ (old new : Piece) (base rest bytes slot now cut : List ℕ) (parts : old.cubes ≡ base ++ rest) (others : rest ≡ bytes ++ slot)
+    (base-long : length base ≡ old.size) (rest-long : length rest + old.size ≡ length old.cubes) (row-long : length bytes ≡ old.kept * old.size)
+    (slot-long : length slot + old.kept * old.size ≡ length rest) (cut-long : length cut ≡ old.size) (more : old.kept < taken_cuts)
+    (whole : length old.cubes ≡ (taken_cuts + 1) * widest_cube) (put : now ≡ and_into base cut slot) (is : new.cubes ≡ base ++ (bytes ++ now))
+    (size : new.size ≡ old.size) where
+  was : old.cubes ≡ base ++ (bytes ++ slot)
+  was = parts ∙ ap (λ (x : List ℕ). base ++ x) others
+
+  room : old.size ≤ length slot
+  room = slot-room old.kept old.size (length rest) (length slot) more old.narrow slot-long (rest-long ∙ whole)
+
+  bases : (base_in old ≡ codes base) × (base_in new ≡ codes base)
+  bases = same-base old new size base (bytes ++ slot) (bytes ++ now) was is base-long
+
+  kept-was : kept_in old ≡ map codes (slices old.size bytes old.kept)
+  kept-was = rw was (row-behind old.size old.kept base bytes slot base-long row-long)
+
+  kept-is : wholes_at new.size new.cubes new.size old.kept ≡ map codes (slices old.size bytes old.kept)
+  kept-is = rw (size, is) (row-behind old.size old.kept base bytes now base-long row-long)
+
+  pub met-is : codes (take old.size now) ≡ meet (codes base) (codes cut)
+  met-is =
+      let l : length base ≡ length cut = omega arith in
+      let n = length-and base cut l in
+      rw (put, into-over base cut slot l (omega (arith, room))) (ap codes (take_at (and_bytes base cut) (drop (length (and_bytes base cut)) slot) old.size (omega (arith, n))) ∙ codes-and base cut l)
+
+  module _ (meets : true ≡ shares (codes base) (codes cut)) where
+    pub cut-covered : true ≡ same (codes (take old.size now)) (codes base) → new.kept ≤ old.kept + 1 → Taken old (codes cut ∷ []) new None
+    unfolding onward
+    cut-covered e k =
+        record {
+          goes = λ later. rw bases.0 (tidy-covered (codes base) (kept_in old) (codes cut) later meets (rw met-is at e));
+          few = k;
+          size = size;
+        }
+
+    module _ (other : false ≡ same (codes (take old.size now)) (codes base)) where
+      pub cut-again : true ≡ list_any (λ b. same (codes (take old.size now)) (codes b)) (slices old.size bytes old.kept) → new.kept ≡ old.kept
+          → Taken old (codes cut ∷ []) new (Some tt)
+      unfolding onward
+      cut-again e k =
           record {
-            goes = λ later. rw (← meets, ← here, ← other, ← still, ← e, wholes-more (length base) new (length base) k);
+            goes = λ later. rw (bases.0, bases.1, kept-was, k, kept-is)
+                (tidy-again (codes base) (map codes (slices old.size bytes old.kept)) (codes cut) later meets (rw met-is at other) (rw (among-any (take old.size now) (slices old.size bytes old.kept), met-is) at e));
             few = omega arith;
+            size = size;
           }
 
+      pub cut-more : false ≡ list_any (λ b. same (codes (take old.size now)) (codes b)) (slices old.size bytes old.kept) → new.kept ≡ old.kept + 1
+          → Taken old (codes cut ∷ []) new (Some tt)
+      unfolding onward
+      cut-more e k =
+          let here : whole_at new.size new.cubes (new.size + old.kept * new.size) ≡ meet (codes base) (codes cut) =
+          unfold whole_at cube_of in
+          rw (
+            is,
+            ← drop-drop (old.kept * new.size) new.size (base ++ (bytes ++ now)),
+            drop_at base (bytes ++ now) new.size (base-long ∙ sym size),
+            drop_at bytes now (old.kept * new.size) (rw size row-long),
+            size,
+          ) met-is in
+          let more : kept_in new ≡ map codes (slices old.size bytes old.kept) ++ (meet (codes base) (codes cut) ∷ []) =
+          rw k (wholes-more new.size new.cubes new.size old.kept ∙ ap₂ (λ (ks : List Cube) (c : Cube). ks ++ (c ∷ [])) kept-is here) in
+          record {
+            goes = λ later. rw (bases.0, bases.1, kept-was, more)
+                (tidy-more (codes base) (map codes (slices old.size bytes old.kept)) (codes cut) later meets (rw met-is at other) (rw (among-any (take old.size now) (slices old.size bytes old.kept), met-is) at e));
+            few = omega arith;
+            size = size;
+          }
+
+-- the cut shares no header with the base
+pub cut-apart : (old new : Piece) (base rest cut : List ℕ) → old.cubes ≡ base ++ rest → new.cubes ≡ base ++ rest → new.size ≡ old.size → new.kept ≡ old.kept
+    → length base ≡ old.size → false ≡ shares (codes base) (codes cut) → Taken old (codes cut ∷ []) new (Some tt)
+unfolding onward
+cut-apart old new base rest cut was is size k l e =
+    let bases = same-base old new size base rest rest was is l in
+    let kept : kept_in new ≡ kept_in old = rw (size, k, is, was) in
+    record { goes = λ later. rw (bases.0, bases.1, kept) (tidy-apart (codes base) (kept_in old) (codes cut) later e); few = omega arith; size = size }
+
 -- a row of cuts
-abbrev pub TakesOn : List ℕ → List ℕ → ℕ → List Cube → List ℕ → ℕ → List Cube → Type 0
-TakesOn base old k cs now j ds =
-    (later : List Cube) → tidy_from (codes base) (kept_in base old k) (cs ++ later) ≡ tidy_from (codes base) (kept_in base now j) (ds ++ later)
+abbrev pub TakesOn : Piece → List (List ℕ) → Piece → List (List ℕ) → Type 0
+TakesOn old cs now ds =
+    (later : List Cube) → tidy_from (base_in old) (kept_in old) (map codes cs ++ later) ≡ tidy_from (base_in now) (kept_in now) (map codes ds ++ later)
 
-module _ (base old : List ℕ) (k : ℕ) (cs : List Cube) (s now : List ℕ) (j next left : ℕ)
-    (goes : TakesOn base old k cs now j (wholes_at (length base) s next left)) where
-  -- what the next cut comes to, before the others
-  next-cut : (new : List ℕ) (m : Made) → 0 < left → Taken base now j (whole_at (length base) s next ∷ []) new m (j + 1) → (later : List Cube)
-      → tidy_from (codes base) (kept_in base old k) (cs ++ later) ≡ onward base new m (wholes_at (length base) s (next + length base) (left - 1) ++ later)
-  next-cut new m h t later =
-      goes later ∙ rw (wholes-turn (length base) s next left h) (t.goes (wholes_at (length base) s (next + length base) (left - 1) ++ later))
+module _ (old : Piece) (cs : List (List ℕ)) (now : Piece) (rest : List (List ℕ)) (goes : TakesOn old cs now rest) where
+  module _ (d : List ℕ) (ds : List (List ℕ)) (e : rest ≡ d ∷ ds) (new : Piece) (m : Option Unit) (taken : Taken now (codes d ∷ []) new m) where
+    turn : (later : List Cube) → tidy_from (base_in old) (kept_in old) (map codes cs ++ later) ≡ onward new m (map codes ds ++ later)
+    turn later = rw e at (goes later) ∙ taken.goes (map codes ds ++ later)
 
-  pub row_kept : (new : List ℕ) (m : Made) (i : ℕ) → 0 < left → Taken base now j (whole_at (length base) s next ∷ []) new m (j + 1) → m ≡ Kept i
-      → TakesOn base old k cs new i (wholes_at (length base) s (next + length base) (left - 1))
+    pub row-kept : m ≡ Some tt → TakesOn old cs new ds
+    unfolding onward
+    row-kept k later = rw k at (turn later)
+
+    pub row-omitted : m ≡ None → new.kept ≤ old.kept + length cs → new.size ≡ old.size → Taken old (map codes cs) new None
+    unfolding onward
+    row-omitted k n s = record { goes = λ later. rw k at (turn later); few = omega (arith, length-map cs codes); size = s }
+
+  pub row-taken : rest ≡ [] → now.kept ≤ old.kept + length cs → now.size ≡ old.size → Taken old (map codes cs) now (Some tt)
   unfolding onward
-  row_kept new m i h t e later = rw e at (next-cut new m h t later)
+  row-taken e n s = record { goes = λ later. rw e at (goes later); few = omega (arith, length-map cs codes); size = s }
 
-  pub row-omitted : (new : List ℕ) (m : Made) (n : ℕ) → 0 < left → Taken base now j (whole_at (length base) s next ∷ []) new m (j + 1) → m ≡ Omitted
-      → Taken base old k cs new Omitted n
-  unfolding onward
-  row-omitted new m n h t e = record { goes = λ later. rw e at (next-cut new m h t later); few = omega arith }
+-- no more cuts are kept than there are in the row
+pub row-few : {old new : Piece} {m : Option Unit} (q : ℕ) (bs : List ℕ) (n : ℕ) → Taken old (map codes (slices q bs n)) new m → new.kept ≤ old.kept + n
+row-few q bs n t = omega (arith, t.few, length-map (slices q bs n) codes, slices-length q bs n)
 
-  pub row-taken : (n : ℕ) → left ≤ 0 → j ≤ n → Taken base old k cs now (Kept j) n
-  unfolding onward
-  row-taken n h l = record { goes = λ later. rw (wholes-none (length base) s next left h) at (goes later); few = l }
+abbrev pub AllLong : ℕ → List (List ℕ) → Type 0
+AllLong q bs = All (λ b. length b ≡ q) bs
 
-pub kept-most : (m : Made) (i n : ℕ) → m ≡ Kept i → most m ≤ n → i ≤ n
-kept-most m i n e h = rw e at h
-
-pub row_fits : (i n q l : ℕ) → i ≤ n → n * q ≤ l → i * q ≤ l
-row_fits i n q l h f = omega (arith, mul-le-mul_right q h)
+pub slices-long : (q : ℕ) (bs : List ℕ) (n : ℕ) → n * q ≤ length bs → AllLong q (slices q bs n)
+slices-long q bs zero h = tt
+slices-long q bs (suc n) h =
+    let l : n * q ≤ length (drop q bs) = simp length-drop (omega arith) in
+    (length-take-le q bs (omega arith), slices-long q (drop q bs) n l)

@@ -2,4 +2,5 @@
 pub mod Tidied
 pub mod Stops
 pub mod Totals
+pub mod Steps
 pub mod Results

@@ -2,11 +2,11 @@
 #![tactic(auto)]
 
 mod call;
-mod compare;
 mod piece;
 mod result;
 mod run;
+mod steps;
 mod stop;
-mod tidying;
+mod totals;
 
 pub use call::{diff_intersect, diff_less, region_intersect, region_less, region_tidy};

@@ -1,23 +1,24 @@
 // The stops of an operation in its second operand.
-ghost use Rattle.std.specs.Prelude.{◌≡◌};
-ghost use Rattle.algebra.specs.Stops.{stop_at, Room};
+ghost use Rattle.std.specs.Prelude.{◌≡◌, ◌≤◌, ◌<◌, length};
+ghost use Rattle.format.specs.Limits.{widest_cube};
+ghost use Rattle.algebra.specs.Stops.{stop_at};
 
 use region::front_at;
 
 // What is done to the differences of the first operand; subtraction is given where the base of its single record starts.
-#[derive(Clone, Copy)]
+// Kept: an enum and one match say the three stops side by side; a trait would need three types, and a law that says which of them each is.
+#[derive(Clone, Copy, Debug, PartialEq, Eq)]
 pub(crate) enum Operation {
     Tidy,
     Intersect,
     Less(usize),
 }
 
-// What a stop adds to a difference of the first operand: a cube that the base is met with, where `meets` says so, and a stretch of cuts. Then
+// What a stop adds to a difference of the first operand: where a cube stands that the base is met with, if there is one, and a stretch of cuts. Then
 // follows the next stop.
-#[derive(Clone, Copy)]
+#[derive(Clone, Copy, Debug, PartialEq, Eq)]
 pub(crate) struct Stop {
-    pub(crate) meets: bool,
-    pub(crate) cube: usize,
+    pub(crate) meets: Option<usize>,
     pub(crate) from: usize,
     pub(crate) cuts: usize,
     pub(crate) next: usize,
@@ -25,13 +26,12 @@ pub(crate) struct Stop {
 
 // The stop at an offset.
 pub(crate) fn stop_at(operation: Operation, q: usize, t: &[u8], x: usize) -> Stop
-    requires { Room q t.now (stop_at operation q t.now x) }
+    requires { (q ≤ widest_cube) × (x < length t.now) }
     ensures { result ≡ stop_at operation q t.now x }
 {
     match operation {
         Operation::Tidy => Stop {
-            meets: false,
-            cube: 0,
+            meets: None,
             from: 0,
             cuts: 0,
             next: t.len(),
@@ -39,8 +39,7 @@ pub(crate) fn stop_at(operation: Operation, q: usize, t: &[u8], x: usize) -> Sto
         Operation::Intersect => {
             let front = front_at(t, x);
             Stop {
-                meets: true,
-                cube: front.base,
+                meets: Some(front.base),
                 from: front.base + q,
                 cuts: front.cuts,
                 next: front.next,
@@ -49,16 +48,14 @@ pub(crate) fn stop_at(operation: Operation, q: usize, t: &[u8], x: usize) -> Sto
         Operation::Less(base) => {
             if x == base {
                 return Stop {
-                    meets: false,
-                    cube: 0,
+                    meets: None,
                     from: x,
                     cuts: 1,
                     next: x + q,
                 };
             }
             Stop {
-                meets: true,
-                cube: x,
+                meets: Some(x),
                 from: 0,
                 cuts: 0,
                 next: x + q,

@@ -2,11 +2,15 @@
 // have the same names in specs/, so that a part can be added here and nowhere else.
 #![tactic(auto)]
 
+mod refusal;
+
 ghost use Rattle.std.specs.Prelude.{◌≡◌};
 ghost use Rattle.answer.specs.Answer.{accepted, yes, no, holding, refused, fault, counted, undecided, showing, wrote, placed};
 
+pub use refusal::Refusal;
+
 #[repr(C)]
-#[derive(Clone, Copy)]
+#[derive(Clone, Copy, Debug, PartialEq, Eq)]
 pub struct Answer {
     pub number: u8,
     pub operand: u8,
@@ -19,19 +23,22 @@ pub struct Answer {
 // The index where no difference decided.
 const NO_DIFFERENCE: u16 = 65535;
 
+// No part says anything.
+const NOTHING: Answer = Answer {
+    number: 0,
+    operand: 0,
+    offset: 0,
+    count: 0,
+    written: 0,
+    index: NO_DIFFERENCE,
+};
+
 impl Answer {
     // No refusal: what the tests of an operand give where none of them holds.
     pub fn accepted() -> Answer
         ensures { result ≡ accepted }
     {
-        Answer {
-            number: 0,
-            operand: 0,
-            offset: 0,
-            count: 0,
-            written: 0,
-            index: NO_DIFFERENCE,
-        }
+        NOTHING
     }
 
     // Yes, to a question that counts nothing.
@@ -40,11 +47,7 @@ impl Answer {
     {
         Answer {
             number: 1,
-            operand: 0,
-            offset: 0,
-            count: 0,
-            written: 0,
-            index: NO_DIFFERENCE,
+            ..NOTHING
         }
     }
 
@@ -54,11 +57,7 @@ impl Answer {
     {
         Answer {
             number: 2,
-            operand: 0,
-            offset: 0,
-            count: 0,
-            written: 0,
-            index: NO_DIFFERENCE,
+            ..NOTHING
         }
     }
 
@@ -68,11 +67,8 @@ impl Answer {
     {
         Answer {
             number: 1,
-            operand: 0,
-            offset: 0,
-            count: 0,
-            written: 0,
             index,
+            ..NOTHING
         }
     }
 
@@ -80,14 +76,7 @@ impl Answer {
     pub fn refused(number: u8) -> Answer
         ensures { result ≡ refused number }
     {
-        Answer {
-            number,
-            operand: 0,
-            offset: 0,
-            count: 0,
-            written: 0,
-            index: NO_DIFFERENCE,
-        }
+        Answer { number, ..NOTHING }
     }
 
     // A refusal of an operand, at the offset of the record at fault.
@@ -98,9 +87,7 @@ impl Answer {
             number,
             operand,
             offset,
-            count: 0,
-            written: 0,
-            index: NO_DIFFERENCE,
+            ..NOTHING
         }
     }
 
@@ -110,11 +97,8 @@ impl Answer {
     {
         Answer {
             number,
-            operand: 0,
-            offset: 0,
             count,
-            written: 0,
-            index: NO_DIFFERENCE,
+            ..NOTHING
         }
     }
 
@@ -124,11 +108,9 @@ impl Answer {
     {
         Answer {
             number: 3,
-            operand: 0,
-            offset: 0,
             count,
-            written: 0,
             index,
+            ..NOTHING
         }
     }
 
@@ -138,11 +120,10 @@ impl Answer {
     {
         Answer {
             number: 2,
-            operand: 0,
-            offset: 0,
             count,
             written,
             index,
+            ..NOTHING
         }
     }
 
@@ -150,14 +131,7 @@ impl Answer {
     pub fn wrote(written: usize) -> Answer
         ensures { result ≡ wrote written }
     {
-        Answer {
-            number: 0,
-            operand: 0,
-            offset: 0,
-            count: 0,
-            written,
-            index: NO_DIFFERENCE,
-        }
+        Answer { written, ..NOTHING }
     }
 
     // A difference that reading on gives, with its record's offset.
@@ -166,11 +140,8 @@ impl Answer {
     {
         Answer {
             number: 1,
-            operand: 0,
             offset,
-            count: 0,
-            written: 0,
-            index: NO_DIFFERENCE,
+            ..NOTHING
         }
     }
 }

@@ -2,11 +2,11 @@
 --   shift-code, weight-pow     a code as it is read, and the weight of its place
 --   code-small, code-none      a code read is below 4, and 0 where there is no byte
 --   code_here       the code at a position of a cube that stands at the front
---   code-above      a number above 3 is the code 3
+--   code-min        a number above 3 is the code 3
 --   room            a byte with another code at a place of it is a byte
 --   codes-set       a code put in a byte is that code at the position, and the others are kept
 --   bytes-are       bytes that hold a cube with the unused places behind it are the bytes written of it
-use Prim.Native.Nat.{ℕ, zero, suc, ◌+◌, ◌-◌, ◌*◌, ◌/◌, ◌%◌, ◌^◌, ◌≤◌, ◌<◌}
+use Prim.Native.Nat.{ℕ, zero, suc, ◌+◌, ◌-◌, ◌*◌, ◌/◌, ◌%◌, ◌^◌, ◌≤◌, ◌<◌, min}
 use native.Mathlib.Nat.{mod-lt, zero-add}
 use native.Mathlib.Omega.{arith}
 use mathlib.Core.Path.{◌≡◌, refl, sym, ap, ◌∙◌}
@@ -40,11 +40,11 @@ unfolding code_at
 code-none s at i h =
     rw (get_or-eq_default s 0 h) (below4 (λ (k : ℕ). 0 ≡ 0 / 4 ^ (3 - k) % 4) refl refl refl refl (i % 4) (mod-lt i (lit< tt)))
 
-pub code-above : (v : ℕ) → 4 ≤ v → code_of 3 ≡ code_of v
-code-above zero h = absurd (omega arith)
-code-above (suc zero) h = absurd (omega arith)
-code-above (suc (suc zero)) h = absurd (omega arith)
-code-above (suc (suc (suc v))) h = refl
+pub code-min : (v : ℕ) → code_of (min v 3) ≡ code_of v
+code-min zero = refl
+code-min (suc zero) = refl
+code-min (suc (suc zero)) = refl
+code-min (suc (suc (suc v))) = let e : min (suc (suc (suc v))) 3 ≡ 3 = omega arith in rw e
 
 pub weight-pow : (i : ℕ) → 64 / 2 ^ (2 * (i % 4)) ≡ 4 ^ (3 - i % 4)
 weight-pow i = below4 (λ (k : ℕ). 64 / 2 ^ (2 * k) ≡ 4 ^ (3 - k)) refl refl refl refl (i % 4) (mod-lt i (lit< tt))

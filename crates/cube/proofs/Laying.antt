@@ -1,7 +1,6 @@
 -- Bytes laid into a buffer.
 --   put-fits, put-long       where the bytes fit they are laid, and else nothing is
 --   put-front                bytes that fit at the front stand there
---   pasted                   bytes copied one by one from the first to the last are laid
 --   over-byte, over-more     laying one byte more, and one part more
 --   tail-back                what a buffer holds when a callee laid bytes over the front of the part that was lent to it
 --   part-back, behind-back   what it holds when a part of it, or the part behind others, was lent and came back
@@ -12,7 +11,7 @@ use native.Mathlib.Omega.{arith}
 use mathlib.Core.Path.{◌≡◌, refl, sym, ap, ◌∙◌}
 use mathlib.Core.List.{List, [], ◌∷◌, ◌++◌, append-nil, append_assoc}
 use lib.ListN.{length, get_or, take, drop, set, length-append, length-take, length-drop, drop_of_length-le}
-use lib.Seq.{drop-cons, append_snoc, set_at, take_at, drop_at, drop-drop, length-take-le, take-append-le, take-take, take_all, take-length, paste}
+use lib.Seq.{drop-cons, append_snoc, set_at, take_at, drop_at, drop-drop, length-take-le, take-append-le, take-take, take_all}
 use borrow.Author.Tests.{le-leb, lt-leb}
 use borrow.Rule.Slice.PartMut.{put_mid}
 use Rattle.format.specs.Told.{over}
@@ -26,9 +25,6 @@ module _ (old : List ℕ) (o : ℕ) (new : List ℕ) where
   pub put-long : length old < o + length new → put old o new ≡ old
   unfolding put
   put-long h = rw (lt-leb (o + length new) (length old) h)
-
-  pub pasted : paste old o new (length new) ≡ laid old o new
-  pasted = rw (take-length new, ← drop-drop (length new) o old, append_assoc)
 
 -- bytes put at the front of a buffer
 pub put-front : (old new : List ℕ) (n : ℕ) → length new ≡ n → n ≤ length old → take n (put old 0 new) ≡ new

@@ -17,3 +17,4 @@ pub mod Laying
 pub mod Sameness
 pub mod Coded
 pub mod Showing
+pub mod Rows

@@ -1,11 +1,11 @@
 -- Lists that bytes spell, a stretch for each byte, cut in the middle of a byte: what stands before, the byte's own stretch cut, and what stands after.
 --   take-parts, drop-parts   the list up to a place of such a byte, and from it on
---   first_part, last-part    the parts of a slice that code lends
+--   last-part                the part of a slice that code lends: the elements after the k-th
 --   drop-take                a part that begins behind others
 use mathlib.Core.Path.{◌≡◌, ap, ◌∙◌}
 use mathlib.Core.List.{List, [], ◌∷◌, ◌++◌}
 use Prim.Native.Nat.{ℕ, zero, suc, ◌+◌, ◌-◌, ◌≤◌, ◌<◌}
-use native.Mathlib.Nat.{sub-zero, zero-add, suc-add}
+use native.Mathlib.Nat.{zero-add, suc-add}
 use native.Mathlib.Numerals.{add-one}
 use native.Mathlib.Omega.{arith}
 use lib.ListN.{length, get_or, take, drop, length-drop}
@@ -26,10 +26,7 @@ module _ {A : Type 0} (F : List ℕ → List A) (join : (a b : List ℕ) → F (
   drop-parts w e =
       ap (drop w) parted ∙ rw (e, drop-append-add) (drop-append-le q (F (get_or c k 0 ∷ [])) (F (drop (suc k) c)) m)
 
--- the parts of a slice that code lends: its first k elements, and those after the k-th
-pub first_part : {A : Type 0} (c : List A) (k : ℕ) → take (k - 0) c ≡ take k c
-first_part c k = rw sub-zero
-
+-- a part of a slice that code lends
 pub last-part : {A : Type 0} (c : List A) (k : ℕ) → take (length c - (k + 1)) (drop (k + 1) c) ≡ drop (suc k) c
 last-part c k =
     let n = length-drop (suc k) c in

@@ -7,3 +7,4 @@ pub mod Whole
 pub mod Lay
 pub mod Code
 pub mod Shown
+pub mod Row

@@ -1,32 +1,35 @@
 // The public questions about two lent cubes.
 ghost use Rattle.std.specs.Prelude.{◌≡◌, length};
+ghost use Rattle.answer.specs.Refusals.{number_of, Tested};
+ghost use Rattle.answer.specs.Answer.{fault};
 ghost use Rattle.format.specs.Rows.{outcome};
-ghost use Rattle.format.specs.Told.{over, two_cubes};
+ghost use Rattle.format.specs.Told.{over, cube_tests, two_cubes};
 ghost use Rattle.format.specs.Calls.{cube_meet, cube_in, wider_number};
 ghost use Rattle.cube.specs.Call.{WiderIs};
 
 use super::fault::lent_fault;
 use super::pair::{lies_in, meet_into, meets};
 use super::size::width_refusal;
-use answer::Answer;
+use answer::{Answer, Refusal};
 
-// The refusal of a width given directly or of one of two lent cubes, or the number 0.
-fn pair_refusal(w: usize, a: &[u8], b: &[u8]) -> Answer
-    ensures { result ≡ outcome (two_cubes w a.now b.now) }
+// The refusal of a lent cube, which is the operand of that number.
+fn cube_refusal(w: usize, c: &[u8], operand: u8) -> Result<(), Answer>
+    ensures { Tested (outcome (cube_tests w c.now operand)) result }
 {
-    let refusal = width_refusal(w);
-    if refusal.number != 0 {
-        return refusal;
-    }
-    let first = lent_fault(a, w);
-    if first != 0 {
-        return Answer::fault(first, 1, 0);
-    }
-    let second = lent_fault(b, w);
-    if second != 0 {
-        return Answer::fault(second, 2, 0);
-    }
-    Answer::accepted()
+    lent_fault(c, w).map_err(
+        |refusal: Refusal| -> Answer
+            ensures { result ≡ fault (number_of refusal) operand 0 }
+        { refusal.of_operand(operand, 0) },
+    )
+}
+
+// The refusal of a width given directly or of one of two lent cubes.
+fn pair_refusal(w: usize, a: &[u8], b: &[u8]) -> Result<(), Answer>
+    ensures { Tested (outcome (two_cubes w a.now b.now)) result }
+{
+    width_refusal(w)?;
+    cube_refusal(w, a, 1)?;
+    cube_refusal(w, b, 2)
 }
 
 // Writes the cube of the headers that are in both; no, and nothing is written, where there is none.
@@ -34,15 +37,14 @@ pub fn cube_meet(w: usize, a: &[u8], b: &[u8], out: &mut [u8]) -> Answer
     ensures answer { result ≡ (cube_meet w a.now b.now (length out.old)).answer }
     ensures bytes { out.new ≡ over out.old (cube_meet w a.now b.now (length out.old)).bytes }
 {
-    let refusal = pair_refusal(w, a, b);
-    if refusal.number != 0 {
+    if let Err(refusal) = pair_refusal(w, a, b) {
         return refusal;
     }
     if !meets(a, b) {
         return Answer::no();
     }
     if out.len() < a.len() {
-        return Answer::refused(22);
+        return Refusal::Room.into();
     }
     meet_into(a, b, out);
     Answer::wrote(a.len())
@@ -52,8 +54,7 @@ pub fn cube_meet(w: usize, a: &[u8], b: &[u8], out: &mut [u8]) -> Answer
 pub fn cube_in(w: usize, a: &[u8], b: &[u8]) -> Answer
     ensures { result ≡ (cube_in w a.now b.now).answer }
 {
-    let refusal = pair_refusal(w, a, b);
-    if refusal.number != 0 {
+    if let Err(refusal) = pair_refusal(w, a, b) {
         return refusal;
     }
     if lies_in(a, b) {
@@ -66,14 +67,10 @@ pub fn cube_in(w: usize, a: &[u8], b: &[u8]) -> Answer
 pub fn wider_number(w: usize, a: &[u8], b: &[u8]) -> Answer
     ensures { result ≡ (wider_number w a.now b.now).answer }
 {
-    let refusal = pair_refusal(w, a, b);
-    if refusal.number != 0 {
+    if let Err(refusal) = pair_refusal(w, a, b) {
         return refusal;
     }
-    if lies_in(b, a) {
-        return Answer::yes();
-    }
-    if lies_in(a, b) {
+    if lies_in(b, a) || lies_in(a, b) {
         return Answer::yes();
     }
     Answer::no()
@@ -84,10 +81,9 @@ pub fn wider_number(w: usize, a: &[u8], b: &[u8]) -> Answer
 pub fn wider<'a>(w: usize, a: &'a [u8], b: &'a [u8]) -> &'a [u8]
     ensures { WiderIs w a.entry b.entry result }
 {
-    let refusal = pair_refusal(w, a, b);
-    if refusal.number != 0 {
+    let Ok(()) = pair_refusal(w, a, b) else {
         return &a[..0];
-    }
+    };
     if lies_in(b, a) {
         return a;
     }

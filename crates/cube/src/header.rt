@@ -1,13 +1,14 @@
 // Header bytes: bits that have to be zero, and the cube that fixes every bit.
 ghost use Rattle.std.specs.Prelude.{◌≡◌, [], ◌∷◌, map, ◌<◌, drop};
 ghost use Rattle.model.specs.Fields.{bit_code};
+ghost use Rattle.answer.specs.Refusals.{Tested};
 ghost use Rattle.format.specs.Rows.{outcome};
 ghost use Rattle.format.specs.Bytes.{bits, any_bit, codes};
 ghost use Rattle.format.specs.Told.{bits_tests};
 ghost use Rattle.cube.specs.Header.{spelled_cube};
 
-use super::size::{WIDEST_CUBE, WIDEST_HEADER, header_len, least};
-use answer::Answer;
+use super::size::{WIDEST_CUBE, WIDEST_HEADER, header_len};
+use answer::{Answer, Refusal};
 
 // The cube byte that fixes four bits, for each four.
 const SPELLED: [u8; 16] = [
@@ -18,11 +19,9 @@ const SPELLED: [u8; 16] = [
 fn any_set(h: &[u8]) -> bool
     ensures { result ≡ any_bit (bits h.now) }
 {
-    let mut set: u8 = 0;
-    let mut i = 0;
-    while i < h.len() {
-        set = set | h[i];
-        i += 1;
+    let mut set = 0u8;
+    for b in h {
+        set |= b;
     }
     set != 0
 }
@@ -40,27 +39,17 @@ fn bits_after(h: &[u8], used: usize) -> bool
     ensures { result ≡ any_bit (drop used (bits h.now)) }
 {
     let whole = used / 8;
-    if h.len() <= whole {
-        return false;
-    }
-    if set_after(h[whole], used % 8) {
-        return true;
-    }
-    let rest = whole + 1;
-    any_set(&h[rest..])
+    whole < h.len() && (set_after(h[whole], used % 8) || any_set(&h[whole + 1..]))
 }
 
-// The refusal of the bytes of a header or field value of n positions of which the first `used` may be set, or the number 0.
-pub fn bits_refusal(bs: &[u8], n: usize, used: usize) -> Answer
-    ensures { result ≡ outcome (bits_tests n used bs.now) }
+// The refusal of the bytes of a header or field value of n positions of which the first `used` may be set.
+pub fn bits_refusal(bs: &[u8], n: usize, used: usize) -> Result<(), Answer>
+    ensures { Tested (outcome (bits_tests n used bs.now)) result }
 {
-    if bs.len() != header_len(n) {
-        return Answer::refused(11);
+    if bs.len() != header_len(n) || bits_after(bs, used) {
+        return Err(Refusal::Bits.into());
     }
-    if bits_after(bs, used) {
-        return Answer::refused(11);
-    }
-    Answer::accepted()
+    Ok(())
 }
 
 // The cube byte that fixes the last four bits of a byte.
@@ -75,13 +64,10 @@ fn spell(b: u8) -> u8
 pub fn spelled(h: &[u8]) -> [u8; WIDEST_CUBE]
     ensures { codes result ≡ spelled_cube h.now }
 {
-    let n = least(h.len(), WIDEST_HEADER);
     let mut c = [0x55u8; WIDEST_CUBE];
-    let mut i = 0;
-    while i < n {
+    for i in 0..h.len().min(WIDEST_HEADER) {
         c[2 * i] = spell(h[i] / 16);
         c[2 * i + 1] = spell(h[i] % 16);
-        i += 1;
     }
     c
 }

@@ -6,15 +6,7 @@ ghost use Rattle.cube.specs.Lay.{put};
 pub fn put(out: &mut [u8], o: usize, src: &[u8])
     ensures { out.new ≡ put out.old o src.now }
 {
-    if out.len() < o {
-        return;
-    }
-    if out.len() - o < src.len() {
-        return;
-    }
-    let mut i = 0;
-    while i < src.len() {
-        out[o + i] = src[i];
-        i += 1;
+    if o <= out.len() && src.len() <= out.len() - o {
+        out[o..o + src.len()].copy_from_slice(src);
     }
 }

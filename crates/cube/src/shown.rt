@@ -34,17 +34,12 @@ fn front_bits(b: u8, n: usize) -> u8
 pub fn show(piece: [u8; WIDEST_CUBE], w: usize, out: &mut [u8])
     ensures { out.new ≡ show_into piece w out.old }
 {
-    if WIDEST < w {
-        return;
-    }
-    if out.len() < header_len(w) {
+    if WIDEST < w || out.len() < header_len(w) {
         return;
     }
     let whole = w / 8;
-    let mut j = 0;
-    while j < whole {
+    for j in 0..whole {
         out[j] = shown_byte(piece[2 * j], piece[2 * j + 1]);
-        j += 1;
     }
     let rest = w % 8;
     if rest != 0 {

@@ -1,2 +1,2 @@
--- The words of the contracts of reading lines.
-pub mod Reading
+-- The words of the contracts of reading a question.
+pub mod Operand

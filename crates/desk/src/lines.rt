@@ -1,65 +1,23 @@
 // The lines of the input, read into a lent buffer.
-ghost use Rattle.std.specs.Prelude.{◌+◌, ◌-◌, ◌≤◌, ◌<◌, ◌≡◌, length, take, drop, IfOk, OnErr};
+ghost use Rattle.std.specs.Prelude.{◌≡◌, ◌+◌, ◌-◌, ◌≤◌, ◌<◌, length, min, take, drop, slice_index, IsTrue, ◌↔◌, IsNone, IfOk, IfSome, OnErr};
 ghost use Rattle.std.specs.Io.KnownBytes.{Consumes, IsAtEnd, Keeps};
-ghost use Rattle.desk.specs.Reading.{Sound};
 
 use std::io::{Read, Result};
+use std::ops::Range;
 
 // A line of more bytes is no question.
 pub(crate) const LONGEST: usize = 524288;
 
-// Where reading stands: a line begins at `start`, no newline was found up to `seen`, and the bytes read end at `end`. `open` while there may be
-// more to read; `passed` where the beginning of the line was too long to keep.
-#[derive(Clone, Copy)]
-pub(crate) struct Lines {
-    pub(crate) start: usize,
-    pub(crate) seen: usize,
-    pub(crate) end: usize,
-    pub(crate) open: bool,
-    pub(crate) passed: bool,
-}
-
-// Before anything is read.
-pub(crate) fn begin() -> Lines
-    ensures { Sound result 0 }
-{
-    Lines {
-        start: 0,
-        seen: 0,
-        end: 0,
-        open: true,
-        passed: false,
-    }
-}
-
-// Behind the newline at `newline`.
-pub(crate) fn after(l: Lines, newline: usize) -> Lines
-    requires { newline < l.end }
-    ensures { Sound result l.end }
-{
-    Lines {
-        start: newline + 1,
-        seen: newline + 1,
-        end: l.end,
-        open: l.open,
-        passed: false,
-    }
-}
-
-// Moves the bytes from `start` to `end` to the front, and gives how many they are.
-fn shift(input: &mut [u8], start: usize, end: usize) -> usize
-    requires { (start ≤ end) × (end ≤ length input.old) }
-    ensures { result ≡ end - start }
-{
-    if start == 0 {
-        return end;
-    }
-    let mut i = 0;
-    while i < end - start {
-        input[i] = input[start + i];
-        i += 1;
-    }
-    i
+// A line begins at `start`, no newline was found up to `seen`, and the bytes read end at `end`.
+#[derive(Drop)]
+pub(crate) struct Lines<'a> {
+    pub(crate) input: &'a mut [u8],
+    start: usize,
+    seen: usize,
+    end: usize,
+    ghost begun: { start ≤ seen },
+    ghost looked_at: { seen ≤ end },
+    ghost within: { end ≤ length input.now },
 }
 
 // One read behind the first `kept` bytes, which stay; it gives how many bytes it reads, 0 at the input's end.
@@ -74,39 +32,85 @@ fn read_behind<R: Read>(reader: &mut R, input: &mut [u8], kept: usize) -> Result
     reader.read(&mut input[kept..])
 }
 
-// Reads on in a line whose first `kept` bytes have no newline. A read that fails leaves these bytes, and what is not read yet.
-fn read_more<R: Read>(reader: &mut R, input: &mut [u8], kept: usize, passed: bool) -> Result<Lines>
-    requires { kept ≤ length input.old }
-    ensures ok { IfOk result (λ l. Sound l (length input.old)) }
-    ensures front { OnErr result (take kept input.new ≡ take kept input.old) }
-    ensures unread { OnErr result (Keeps (R.remaining reader.old) (R.remaining reader.new)) }
-{
-    let got = read_behind(reader, input, kept)?;
-    Ok(Lines {
-        start: 0,
-        seen: kept,
-        end: kept + got,
-        open: 0 < got,
-        passed,
-    })
-}
-
-// Whether the line of which no end is read yet is too long to keep.
-fn too_long(l: Lines) -> bool
-    requires { l.start ≤ l.end }
-{
-    l.passed || LONGEST < l.end - l.start
-}
-
-// The line's beginning goes to the front of the buffer, where it is kept, and more is read behind it. A read that fails leaves what is not read yet.
-pub(crate) fn refill<R: Read>(reader: &mut R, input: &mut [u8], l: Lines) -> Result<Lines>
-    requires { Sound l (length input.old) }
-    ensures ok { IfOk result (λ m. Sound m (length input.old)) }
-    ensures unread { OnErr result (Keeps (R.remaining reader.old) (R.remaining reader.new)) }
-{
-    if too_long(l) {
-        return read_more(reader, input, 0, true);
+impl<'a> Lines<'a> {
+    // Before anything is read.
+    pub(crate) fn new(input: &'a mut [u8]) -> Lines<'a>
+        ensures { result.end ≡ 0 }
+    {
+        Lines {
+            input,
+            start: 0,
+            seen: 0,
+            end: 0,
+        }
     }
-    let kept = shift(input, l.start, l.end);
-    read_more(reader, input, kept, false)
+
+    // The first newline that is read.
+    fn newline(&self) -> Option<usize>
+        ensures { IfSome result (λ i. (self.now.seen ≤ i) × (i < self.now.end) × (slice_index self.now.input.now i ≡ 10)) }
+    {
+        let (seen, end) = (self.seen, self.end);
+        let length = self.input[seen..end].iter().position(|b| *b == b'\n')?;
+        Some(seen + length)
+    }
+
+    // Where the next line of which the newline is read lies in the buffer, without it.
+    pub(crate) fn next(&mut self) -> Option<Range<usize>>
+        ensures within { IfSome result (λ r. (r.start ≤ r.end) × (r.end ≤ length self.new.input.now)) }
+        ensures line { IfSome result (λ r. (r.start ≡ self.old.start) × (slice_index self.old.input.now r.end ≡ 10)) }
+        ensures behind { IfSome result (λ r. self.new.start ≡ r.end + 1) }
+        ensures none { IsNone result → self.new.start ≡ self.old.start }
+        ensures read { self.new.end ≡ self.old.end }
+        ensures kept { self.new.input.now ≡ self.old.input.now }
+    {
+        let start = self.start;
+        let newline = self.newline()?;
+        self.start = newline + 1;
+        self.seen = newline + 1;
+        Some(start..newline)
+    }
+
+    // Where the line lies whose newline is not read.
+    pub(crate) fn rest(&self) -> Range<usize>
+        ensures within { (result.start ≤ result.end) × (result.end ≤ length self.now.input.now) }
+        ensures rest { (result.start ≡ self.now.start) × (result.end ≡ self.now.end) }
+    {
+        self.start..self.end
+    }
+
+    // Moves the line's beginning to the front of the buffer. No more of it is kept than shows that it is too long.
+    fn to_front(&mut self)
+        ensures start { self.new.start ≡ 0 }
+        ensures kept { self.new.end ≡ min (self.old.end - self.old.start) (LONGEST + 1) }
+        ensures bytes { take self.new.end self.new.input.now ≡ take self.new.end (drop self.old.start self.old.input.now) }
+    {
+        let (start, end) = (self.start, self.end);
+        let kept = (end - start).min(LONGEST + 1);
+        if 0 < start {
+            self.input.copy_within(start..start + kept, 0);
+        }
+        self.start = 0;
+        self.seen = kept;
+        self.end = kept;
+    }
+
+    // Reads on behind the bytes up to `end`, and says whether there was more to read.
+    fn read_more<R: Read>(&mut self, reader: &mut R) -> Result<bool>
+        ensures more { IfOk result (λ b. IsTrue b ↔ self.old.end < self.new.end) }
+        ensures front { take self.old.end self.new.input.now ≡ take self.old.end self.old.input.now }
+        ensures unread { OnErr result (Keeps (R.remaining reader.old) (R.remaining reader.new)) }
+    {
+        let end = self.end;
+        let got = read_behind(reader, self.input, end)?;
+        self.end = end + got;
+        Ok(0 < got)
+    }
+
+    // Reads on in the line whose newline is not read. A read that fails leaves what is not read yet.
+    pub(crate) fn refill<R: Read>(&mut self, reader: &mut R) -> Result<bool>
+        ensures unread { OnErr result (Keeps (R.remaining reader.old) (R.remaining reader.new)) }
+    {
+        self.to_front();
+        self.read_more(reader)
+    }
 }

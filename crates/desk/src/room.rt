@@ -5,20 +5,17 @@ fn pattern(i: usize) -> u8 {
 
 // Fills the room with the pattern.
 pub(crate) fn fill(room: &mut [u8]) {
-    let mut i = 0;
-    while i < room.len() {
-        room[i] = pattern(i);
-        i += 1;
+    for (i, byte) in room.iter_mut().enumerate() {
+        *byte = pattern(i);
     }
 }
 
 // Whether a byte from `written` on is not the pattern's.
 pub(crate) fn touched(room: &[u8], written: usize) -> bool {
-    let mut changed = 0;
-    let mut i = written;
-    while i < room.len() {
-        changed = changed | (room[i] ^ pattern(i));
-        i += 1;
-    }
+    let rest = room.get(written..).unwrap_or(&[]);
+    let changed = rest
+        .iter()
+        .zip(written..room.len())
+        .fold(0, |changed, (byte, i)| changed | (*byte ^ pattern(i)));
     changed != 0
 }

@@ -1,48 +1,95 @@
-// The words of a question, with a single space between two.
-use crate::find::{find, part};
+// The words of a question, of which the first is a call's name and each other an argument.
+ghost use Rattle.std.specs.Prelude.{◌≡◌, ◌+◌, ◌*◌, ◌<◌, ◌≤◌, ℕ, length, slice_index, IfSome};
+ghost use Rattle.std.specs.Char.{digit_value};
+ghost use Rattle.desk.specs.Operand.{spelled};
+ghost use Rattle.std.specs.Str.Parse.{IsNumeral, digits_value};
 
-// The word i is from starts[i] to ends[i]. No question has more than seven words; more than eight are not counted.
-#[derive(Clone, Copy)]
-pub(crate) struct Words {
-    pub(crate) starts: [usize; 8],
-    pub(crate) ends: [usize; 8],
-    pub(crate) count: usize,
+// The largest buffer that is lent.
+pub(crate) const MOST_ROOM: usize = 1048576;
+
+// What is left of a line; none behind its last word.
+#[derive(Drop)]
+pub(crate) struct Words<'a> {
+    rest: Option<&'a mut [u8]>,
 }
 
-// Splits a line into its words, of which an empty one has no bytes.
-pub(crate) fn split(line: &[u8]) -> Words {
-    let mut starts = [0usize; 8];
-    let mut ends = [0usize; 8];
-    let mut count = 0;
-    let mut from = 0;
-    while count < 8 {
-        let end = find(line, from, b' ');
-        starts[count] = from;
-        ends[count] = end;
-        count += 1;
-        if end == line.len() {
-            break;
-        }
-        from = end + 1;
+impl<'a> Words<'a> {
+    pub(crate) fn new(line: &'a mut [u8]) -> Words<'a> {
+        Words { rest: Some(line) }
     }
-    Words {
-        starts,
-        ends,
-        count,
+
+    // The next word, up to a single space or the line's end.
+    pub(crate) fn word(&mut self) -> Option<&'a mut [u8]> {
+        let mut parts = self.rest.take()?.splitn_mut(2, |c| *c == b' ');
+        let word = parts.next();
+        self.rest = parts.next();
+        word
+    }
+
+    // A number, spelled by decimal digits.
+    pub(crate) fn number(&mut self) -> Option<usize> {
+        decimal(self.word()?)
+    }
+
+    pub(crate) fn allowance(&mut self) -> Option<u32> {
+        u32::try_from(self.number()?).ok()
+    }
+
+    // How large a buffer is lent.
+    pub(crate) fn room(&mut self) -> Option<usize>
+        ensures { IfSome result (λ n. n ≤ MOST_ROOM) }
+    {
+        let size = self.number()?;
+        (size <= MOST_ROOM).then_some(size)
+    }
+
+    // Bytes in hex, `-` for none. They are left in the word, where their digits stood.
+    pub(crate) fn operand(&mut self) -> Option<&'a [u8]> {
+        let word = self.word()?;
+        if &*word == b"-".as_slice() {
+            return Some(&[]);
+        }
+        let size = bytes_of_hex(word)?;
+        Some(&word[..size])
+    }
+
+    // Whether no word is left.
+    pub(crate) fn is_empty(&self) -> bool {
+        self.rest.is_none()
     }
 }
 
-// The place of a word among the words of a list, or how many words there are.
-pub(crate) fn place(list: &[u8], word: &[u8]) -> usize {
-    let mut from = 0;
-    let mut i = 0;
-    while from < list.len() {
-        let end = find(list, from, b' ');
-        if part(list, from, end) == word {
-            return i;
-        }
-        from = end + 1;
-        i += 1;
+// The number that is spelled by decimal digits. A sign, which `parse` takes, is none.
+fn decimal(word: &[u8]) -> Option<usize>
+    ensures { IfSome result (λ n. (n ≡ digits_value 10 word.now) × IsNumeral 10 word.now) }
+{
+    if word.first() == Some(&b'+') {
+        return None;
     }
-    i
+    str::from_utf8(word).ok()?.parse().ok()
+}
+
+// The byte that two digits of either case spell.
+fn byte(high: u8, low: u8) -> Option<u8>
+    ensures { IfSome result (λ b. b ≡ 16 * digit_value high + digit_value low) }
+{
+    let high = char::from(high).to_digit(16)?;
+    let low = char::from(low).to_digit(16)?;
+    Some((16 * high + low) as u8)
+}
+
+// Puts the bytes that the word spells in the place of its first digits, and gives how many they are. An empty word spells nothing.
+// Kept as a loop over places: a byte goes where digits stood, so no iterator can lend the digits meanwhile.
+fn bytes_of_hex(word: &mut [u8]) -> Option<usize>
+    ensures count { IfSome result (λ n. 2 * n ≡ length word.old) }
+    ensures bytes { IfSome result (λ n. (k : ℕ) → k < n → slice_index word.new k ≡ spelled word.old k) }
+{
+    if word.is_empty() || word.len() % 2 == 1 {
+        return None;
+    }
+    let size = word.len() / 2;
+    for i in 0..size {
+        word[i] = byte(word[2 * i], word[2 * i + 1])?;
+    }
+    Some(size)
 }

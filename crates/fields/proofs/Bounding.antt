@@ -5,9 +5,11 @@
 --   field-again      the tests of a second field of the same length are one row more
 use Prim.Native.Nat.{ℕ, ◌+◌, ◌≤◌, ◌<◌}
 use native.Mathlib.Omega.{arith}
-use mathlib.Core.Path.{◌≡◌, sym, ◌∙◌}
+use Rattle.std.specs.Prelude.{Ok, Err}
+use mathlib.Core.Path.{◌≡◌, refl, sym, ◌∙◌}
 use Rattle.answer.specs.declared.Answer.{Answer}
-use Rattle.answer.specs.Answer.{refused}
+use Rattle.answer.specs.Answer.{accepted, refused}
+use Rattle.answer.specs.Refusals.{Tested}
 use Rattle.format.specs.Rows.{Rows, row, below, onto, outcome}
 use Rattle.format.specs.Limits.{widest}
 use Rattle.format.specs.Told.{Told, silent}
@@ -20,13 +22,12 @@ pub record FieldIn (w s n : ℕ) : Type 0 where
   pub some : 0 < n
   pub inside : s + n ≤ w
 
-module _ (w s n : ℕ) (r : Answer) (e : r ≡ outcome (field_tests w s n)) where
-  pub field-refused : (k : Rows Told) → (r.number ≡ 0 → ⊥) → silent r ≡ outcome (onto silent (field_tests w s n) k)
-  field-refused k = tests-refused (field_tests w s n) r e silent k (omega arith)
+pub field-refused : (w s n : ℕ) (r : Answer) → Tested (outcome (field_tests w s n)) (Err r) → (k : Rows Told) → silent r ≡ outcome (onto silent (field_tests w s n) k)
+field-refused w s n r t k = tests-refused (field_tests w s n) r t.0 silent k (omega arith) t.1
 
-  pub field-stands : r.number ≡ 0 → FieldIn w s n
-  field-stands z =
-      let p = tests-past (field_tests w s n) r e (omega arith) z in record { narrow = p.1.0; some = omega arith; inside = p.1.1.1.0 }
+pub field-stands : (w s n : ℕ) → Tested (outcome (field_tests w s n)) (Ok tt) → FieldIn w s n
+field-stands w s n t =
+    let p = tests-past (field_tests w s n) accepted (sym t) (omega arith) refl in record { narrow = p.1.0; some = omega arith; inside = p.1.1.1.0 }
 
 pub field-again : (w p q n : ℕ) (k : Rows Told) → FieldIn w p n
     → outcome (onto silent (field_tests w q n) k) ≡ outcome (onto silent (field_tests w p n) (row (below w (q + n)) (silent (refused 21)) k))

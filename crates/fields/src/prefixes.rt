@@ -7,7 +7,7 @@ ghost use Rattle.format.specs.Told.{over};
 ghost use Rattle.format.specs.Calls.{prefix};
 
 use super::bounds::field_refusal;
-use answer::Answer;
+use answer::{Answer, Refusal};
 use cube::{bits_refusal, cube_len, fill, set_code};
 
 // Makes a cube that fixes the positions from s on to the first m bits of a value.
@@ -16,11 +16,9 @@ fn put_prefix(c: &mut [u8], s: usize, value: &[u8], m: usize)
     ensures { codes c.new ≡ prefix_cube (4 * length c.old) s m (bits value.now) }
 {
     fill(c);
-    let mut i = 0;
-    while i < m {
+    for i in 0..m {
         let bit = (value[i / 8] >> (7 - i % 8)) % 2;
         set_code(c, s + i, bit + 1);
-        i += 1;
     }
 }
 
@@ -29,20 +27,18 @@ pub fn prefix(w: usize, s: usize, n: usize, m: usize, value: &[u8], out: &mut [u
     ensures answer { result ≡ (prefix w s n m value.now (length out.old)).answer }
     ensures bytes { out.new ≡ over out.old (prefix w s n m value.now (length out.old)).bytes }
 {
-    let refusal = field_refusal(w, s, n);
-    if refusal.number != 0 {
+    if let Err(refusal) = field_refusal(w, s, n) {
         return refusal;
     }
     if n < m {
-        return Answer::refused(21);
+        return Refusal::Bounds.into();
     }
-    let wrong = bits_refusal(value, n, m);
-    if wrong.number != 0 {
-        return wrong;
+    if let Err(refusal) = bits_refusal(value, n, m) {
+        return refusal;
     }
     let size = cube_len(w);
     if out.len() < size {
-        return Answer::refused(22);
+        return Refusal::Room.into();
     }
     put_prefix(&mut out[0..size], s, value, m);
     Answer::wrote(size)

@@ -1,6 +1,7 @@
 -- The tests that calls start with, each as one question: r is the first refusal, or has the number 0.
 --   Accepts a          == the number of a is 0, which refuses nothing
 --   tests-refused, tests-passed, tests-past    of any tests p: a refusal is what the table gives; where there is none it goes on, and each test fails
+--   tested-refused, tested-passed    how two tables of tests in a row end: with the refusal of the first, or else as the second does
 --   width-refused, pair-refused, one-refused, two-refused, record-refused, bits-refused    a refusal is what the call's table gives
 --   width-passed, pair-passed, one-passed, two-passed, record-passed, bits-passed    where there is none, the table goes on
 --   width-lent, pair-lent, one_lent, two_lent, record-lent, bits-lent    where there is none, what was lent is accepted
@@ -11,14 +12,16 @@
 --                      is, each test fails
 --   numbers-refused, numbers-passed, numbers-clean    likewise of all that stands before a record's cubes; where
 --                      nothing is wrong with it, the table goes on
+use Rattle.std.specs.Prelude.{Result, Ok, Err}
 use Prim.Native.Nat.{ℕ, ◌≤◌}
 use native.Mathlib.Omega.{arith}
-use mathlib.Core.Path.{◌≡◌, sym, ap, ◌∙◌}
+use mathlib.Core.Path.{◌≡◌, refl, sym, ap, subst, ◌∙◌}
 use mathlib.Core.List.{List}
 use mathlib.Core.Bool.{Bool, true, false}
 use lib.ListN.{length, drop}
 use Rattle.answer.specs.declared.Answer.{Answer}
-use Rattle.answer.specs.Answer.{fault}
+use Rattle.answer.specs.Answer.{accepted, fault}
+use Rattle.answer.specs.Refusals.{Tested}
 use Rattle.format.specs.Rows.{Rows, onto, then, outcome}
 use Rattle.format.specs.Limits.{widest}
 use Rattle.format.specs.Bytes.{header_len, bits, any_bit, lent_fault}
@@ -40,6 +43,14 @@ module _ (p : Rows Answer) (r : Answer) (e : r ≡ outcome p) where
 
   pub tests-past : Refuses Accepts p → r.number ≡ 0 → Past (outcome p) p
   tests-past h z = past Accepts p h (ap (λ (a : Answer). a.number) (sym e) ∙ z)
+
+-- how tests end
+module _ (p k : Rows Answer) where
+  pub tested-refused : (x : Answer) → Ends Accepts p → Tested (outcome p) (Err x) → Tested (outcome (then p k)) (Err x)
+  tested-refused x h t = (tests-refused p x t.0 (λ a. a) k h t.1, t.1)
+
+  pub tested-passed : (r : Result Unit Answer) → Refuses Accepts p → Tested (outcome p) (Ok tt) → Tested (outcome k) r → Tested (outcome (then p k)) r
+  tested-passed r h t e = subst (λ (a : Answer). Tested a r) (tests-passed p accepted (sym t) (λ a. a) k h refl) e
 
 -- a width given directly; what follows makes of a refusal what f says
 module _ (w : ℕ) (r : Answer) (e : r ≡ outcome (width_tests w)) where

@@ -1,6 +1,11 @@
 -- Refusals have numbers from 10 on, so a smaller number tells that no test refused.
+--   numbered              no refusal has the number 0
 --   Refusal f             == f is 0, no fault, or from 10 on
 --   lent-refusal, record-refusal, width-refusal, file-refusal    the faults of a lent cube, of a kind 2 and a kind 1 record and of a file are such
+use Rattle.answer.specs.declared.refusal.Refusal as refusal
+use Rattle.answer.specs.declared.refusal.Refusal.TheVariants.{Width, Bits, CubeLength, CodeZero, UnusedPlace, CutShort, Kind, Length, Cuts, Differences, TwoWidths, Bounds, Room, Index, Input}
+use Rattle.answer.specs.Refusals.{number_of}
+use mathlib.Core.Path.{◌≡◌}
 use Prim.Native.Nat.{ℕ, zero, suc, ◌+◌, ◌*◌, ◌≤◌, min}
 use native.Mathlib.Omega.{arith}
 use mathlib.Core.List.{List, []}
@@ -12,6 +17,23 @@ use Rattle.format.specs.Records.{count_at, base_at, next_at, width_of, first_at,
 use Rattle.format.specs.Files.{faulty, whole, fault_number, before, differences_from, read_file}
 use Rattle.format.proofs.Reached.{each}
 use Rattle.format.proofs.Filing.{before-number}
+
+pub numbered : (r : refusal.Refusal) → number_of r ≡ 0 → ⊥
+numbered Width e = omega arith
+numbered Bits e = omega arith
+numbered CubeLength e = omega arith
+numbered CodeZero e = omega arith
+numbered UnusedPlace e = omega arith
+numbered CutShort e = omega arith
+numbered Kind e = omega arith
+numbered Length e = omega arith
+numbered Cuts e = omega arith
+numbered Differences e = omega arith
+numbered TwoWidths e = omega arith
+numbered Bounds e = omega arith
+numbered Room e = omega arith
+numbered Index e = omega arith
+numbered Input e = omega arith
 
 -- a form that arithmetic reads
 abbrev pub Refusal : ℕ → Type 0

@@ -1,19 +1,23 @@
 -- Asking a record for a header by bytes: one turn of the question, and what the answer means.
---   any_none, any_here, any_next     no cube left; the header is in the first cube; it is not, so the others decide
---   record-short, record-out, record-in   too few bytes lent; not in the base; in the base, so the cuts decide
---   held-before, held-now, held_none    the first holder with one record more: one was found before; this one is; there is none
+--   any-slices       whether it lies in one of the slices is whether it is in one of the cubes
+--   held-short, held-out, held-through   too few bytes lent; not in the base; in the base, so the cuts decide
+--   difference-held, record-held   of a record's difference as it stands there the answer is the record's
+--   holder-more      the first holder with one record more
 --   record-member    of an accepted record the answer is whether the header is in the difference
 --   file-member      of the records of an accepted file, the first that it is true of is the first difference that holds the header
+use Rattle.std.specs.Prelude.{Option, None, Some, MatchOption}
+use Rattle.std.specs.Bool.{then_some}
 use Prim.Native.Nat.{ℕ, zero, suc, ◌+◌, ◌-◌, ◌*◌, ◌≤◌, ◌<◌}
-use native.Mathlib.Numerals.{sub-one}
+use native.Mathlib.Nat.{sub-zero}
 use native.Mathlib.Omega.{arith}
-use mathlib.Core.Path.{◌≡◌, refl, sym, ap₂, ◌∙◌}
+use mathlib.Core.Path.{◌≡◌, refl, ap, ap₂, ◌∙◌}
 use mathlib.Core.List.{List}
-use mathlib.Core.Bool.{Bool, true, false, cond, not, ◌&&◌, ◌||◌, true≢false}
+use mathlib.Core.Bool.{Bool, true, false, cond, not, ◌&&◌, ◌||◌}
 use lib.ListN.{length, take, drop, length-take, length-drop}
-use lib.Seq.{length-take-le}
+use lib.Seq.{length-take-le, drop-drop}
+use Rattle.std.specs.List.{list_any}
 use Rattle.model.specs.Cube.{holds}
-use Rattle.model.specs.Difference.{any_holds, in_difference, Holder, unheld, held, further, first_holder, is_held}
+use Rattle.model.specs.Difference.{any_holds, in_difference, held, further, first_holder, Holder}
 use Rattle.format.specs.Limits.{widest}
 use Rattle.format.specs.Bytes.{header_len, cube_len, read_header, codes, cube_fault}
 use Rattle.format.specs.Records.{count_at, base_at, cube_at, cubes_at, difference_at}
@@ -21,69 +25,63 @@ use Rattle.format.specs.Files.{region_of}
 use Rattle.format.proofs.Recording.{Record, each-cube}
 use Rattle.format.proofs.Filing.{Listed, ended, listed}
 use Rattle.cube.specs.Header.{spelled_cube}
+use Rattle.cube.specs.Pair.{lies_in}
+use Rattle.cube.specs.Row.{slices, slices_of}
 use Rattle.cube.proofs.Pairs.{lies-apart}
 use Rattle.cube.proofs.Member.{spelled-in}
-use Rattle.region.specs.Asked.{cube_in, any_in, held_by, in_record, first_record, or_held}
+use Rattle.region.specs.declared.front.Front.{Front}
+use Rattle.region.specs.declared.difference.Difference.{Difference}
+use Rattle.region.specs.Difference.{held_in, DifferenceOf, DifferenceAt}
+use Rattle.region.proofs.Fronts.{front-base, front-own}
+use Rattle.region.specs.Asked.{cube_in, any_in, held_by, in_record, first_record, holder_of, or_held}
 
--- one turn
-module _ (q : ℕ) (h s : List ℕ) (a : ℕ) where
-  pub any_none : (k : ℕ) → k ≤ 0 → false ≡ any_in q h s a k
-  unfolding any_in
-  any_none zero l = refl
-  any_none (suc k) l = absurd (omega arith)
-
-  pub any_here : (k : ℕ) → 0 < k → (b : Bool) → b ≡ cube_in q h s a → b ≡ true → true ≡ any_in q h s a k
-  unfolding any_in
-  any_here zero l b e t = absurd (omega arith)
-  any_here (suc k) l b e t = rw (← e, t)
-
-  pub any_next : (k : ℕ) → 0 < k → (b : Bool) → b ≡ cube_in q h s a → b ≡ false → any_in q h s (a + q) (k - 1) ≡ any_in q h s a k
-  unfolding any_in
-  any_next zero l b e t = absurd (omega arith)
-  any_next (suc k) l b e t = rw (← e, t, sub-one)
+-- the cuts as slices
+pub any-slices : (q : ℕ) (h s : List ℕ) (a k : ℕ) → list_any (lies_in (take q h)) (slices q (drop a s) k) ≡ any_in q h s a k
+unfolding any_in cube_in
+any-slices q h s a zero = refl
+any-slices q h s a (suc k) =
+    ap (λ (b : Bool). lies_in (take q h) (take q (drop a s)) || b)
+    (ap (λ (b : List ℕ). list_any (lies_in (take q h)) (slices q b k)) (drop-drop q a s) ∙ any-slices q h s (a + q) k)
 
 -- a stretch of bytes has its length
 stretch : (q : ℕ) (s : List ℕ) (a : ℕ) → a + q ≤ length s → length (take q (drop a s)) ≡ q
 stretch q s a l = length-take-le q (drop a s) (simp length-drop (omega arith))
 
-module _ (q : ℕ) (h s : List ℕ) (a k : ℕ) where
-  pub record-short : length h < q → a + (k + 1) * q ≤ length s → false ≡ held_by q h s a k
-  unfolding held_by cube_in
-  record-short l r =
-      let m : length (take q (drop a s)) ≡ q = stretch q s a (omega arith) in
-      let n : length (take q h) ≡ q → ⊥ = λ e. omega (arith, length-take q h) in
-      rw (← lies-apart (take q h) (take q (drop a s)) (λ e. n (e ∙ m)))
+-- a difference as it stands there
+pub held-short : (h : List ℕ) (d : Difference) → length h < length d.base.now → false ≡ held_in h d
+unfolding held_in
+held-short h d l =
+    let n : length (take (length d.base.now) h) ≡ length d.base.now → ⊥ = λ e. omega (arith, length-take (length d.base.now) h) in
+    rw (← lies-apart (take (length d.base.now) h) d.base.now n) refl
 
-  pub record-out : (b : Bool) → b ≡ cube_in q h s a → b ≡ false → false ≡ held_by q h s a k
-  unfolding held_by
-  record-out b e t = rw (← e, t)
+module _ (h : List ℕ) (d : Difference) (head : List ℕ) (e : head ≡ take (length d.base.now - 0) h) (b : Bool) (f : b ≡ lies_in head d.base.now) where
+  pub held-out : b ≡ false → b ≡ held_in h d
+  unfolding held_in
+  held-out g = g ∙ rw (← (rw (e, sub-zero) at f), g) refl
 
-  pub record-in : (b r : Bool) → b ≡ cube_in q h s a → b ≡ true → r ≡ any_in q h s (a + q) k → not r ≡ held_by q h s a k
-  unfolding held_by
-  record-in b r e t f = rw (← e, t, f)
+  pub held-through : b ≡ true → (r : Bool) → r ≡ list_any (lies_in head) (slices_of d.cuts) → not r ≡ held_in h d
+  unfolding held_in
+  held-through g r k = rw (← (rw (e, sub-zero) at f), g, rw (e, sub-zero) at k) refl
 
--- the first holder, with one record more
-module _ (x : Holder) (b : Bool) (n : ℕ) where
-  pub held-before : is_held x ≡ true → x ≡ or_held x b n
-  held-before e = go x e
-    where
-      go : (x : Holder) → is_held x ≡ true → x ≡ or_held x b n
-      go unheld e = absurd (true≢false (sym e))
-      go (held i) e = refl
+by-bytes : (q a k : ℕ) (h s base : List ℕ) (cuts : List (List ℕ)) (n : ℕ) → n ≡ q → base ≡ take q (drop a s) → cuts ≡ slices q (drop (a + q) s) k
+    → (lies_in (take n h) base && not (list_any (lies_in (take n h)) cuts)) ≡ held_by q h s a k
+unfolding held_by cube_in
+by-bytes q a k h s base cuts n e f g = rw (e, f, g) (ap (λ (b : Bool). lies_in (take q h) (take q (drop a s)) && not b) (any-slices q h s (a + q) k))
 
-  pub held-now : is_held x ≡ false → (c : Bool) → c ≡ b → c ≡ true → held n ≡ or_held x b n
-  held-now e c q t = go x e
-    where
-      go : (x : Holder) → is_held x ≡ false → held n ≡ or_held x b n
-      go unheld e = rw (← q, t)
-      go (held i) e = absurd (true≢false e)
+pub difference-held : {q : ℕ} {s : List ℕ} {f : Front} {d : Difference} → DifferenceOf q s f d → (h : List ℕ) → held_in h d ≡ held_by q h s f.base f.cuts
+unfolding held_in
+difference-held {q} {s} {f} {d} i h = by-bytes q f.base f.cuts h s d.base.now (slices_of d.cuts) _ i.size i.base i.cuts
 
-  pub held_none : is_held x ≡ false → (c : Bool) → c ≡ b → c ≡ false → x ≡ or_held x b n
-  held_none e c q t = go x e
-    where
-      go : (x : Holder) → is_held x ≡ false → x ≡ or_held x b n
-      go unheld e = rw (← q, t)
-      go (held i) e = refl
+pub record-held : {alone : Bool} {w n : ℕ} {s : List ℕ} {at : ℕ} {d : Difference} → Record alone w n s at → DifferenceAt w s at d → (h : List ℕ)
+    → held_in h d ≡ in_record w h s at
+record-held {s = s} {at = at} r i h = difference-held i h ∙ rw (front-base r (front-own s at)) refl
+
+-- the first holder, with one record more, where one was found before or this record was asked
+pub holder-more : (x : Option ℕ) (b : Bool) (n : ℕ) (r : Option ℕ) → MatchOption x (r ≡ then_some b n) (λ y. r ≡ Some y)
+    → holder_of r ≡ or_held (holder_of x) b n
+holder-more None true n r h = ap holder_of h
+holder-more None false n r h = ap holder_of h
+holder-more (Some i) b n r h = ap holder_of h
 
 -- what the answer means, where c spells the header of the bytes h
 module _ (w : ℕ) (h c : List ℕ) (narrow : w ≤ widest) (l : length h ≡ header_len w) (e : codes c ≡ spelled_cube h) where

@@ -1,5 +1,7 @@
 -- The laws of records and region files.
 pub mod Fronts
+pub mod Differences
+pub mod Alone
 pub mod Cubing
 pub mod Held
 pub mod Membership
@@ -8,4 +10,5 @@ pub mod Onward
 pub mod Viewed
 pub mod Stepping
 pub mod Reading
+pub mod Turning
 pub mod Writing

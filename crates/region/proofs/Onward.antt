@@ -3,7 +3,7 @@
 --   ahead-end, ahead-next       the offsets from an offset on: none at the end; else this one and those from the next record on
 --   region-end, region-next     their region
 --   listed-ahead                of accepted records they are those that are listed
---   seek-end, seek-here, seek-turn   the offset that has d before it
+--   seek-end, seek-turn, seek-found   the offset that has d before it
 --   AllAccepted w s at          the records from an offset to the end are all accepted
 --   onward-file, file-ahead, file-region   in an accepted file the records from the first on are, and theirs are the
 --                               offsets and the region that reading the file gives
@@ -11,12 +11,13 @@
 --   file-read                   a file where the reader found no fault is accepted
 --   onward-record               the record here is accepted
 --   onward-next                 the records after it are all accepted
-use Prim.Native.Nat.{ℕ, zero, suc, ◌+◌, ◌-◌, ◌≤◌, ◌<◌}
-use native.Mathlib.Numerals.{sub-one}
+use Prim.Native.Nat.{ℕ, suc, ◌+◌, ◌≤◌, ◌<◌, min}
+use borrow.Author.Tests.{leb-true, leb-false}
+use lib.Dec.{leb}
 use native.Mathlib.Omega.{arith}
 use mathlib.Core.Path.{◌≡◌, refl, sym, ap, ◌∙◌}
 use mathlib.Core.List.{List, [], ◌∷◌}
-use mathlib.Core.Bool.{false}
+use mathlib.Core.Bool.{Bool, true, false}
 use lib.ListN.{length, get_or}
 use Rattle.format.specs.Records.{width_of, first_at, difference_at}
 use Rattle.format.specs.Files.{read_file, offsets, region_of, region_in}
@@ -24,7 +25,7 @@ use Rattle.format.proofs.Recording.{Record}
 use Rattle.format.proofs.Filing.{Listed, ended, listed, listed-turn, File, file-of}
 use Rattle.region.specs.Front.{front_at}
 use Rattle.region.specs.Ahead.{ahead, region_ahead}
-use Rattle.region.specs.Reader.{FileIs}
+use Rattle.region.specs.Reader.{AcceptedIs}
 use Rattle.region.specs.declared.files.File as result
 use Rattle.region.proofs.Fronts.{front-own, front-next}
 use Rattle.region.proofs.Strides.{steps-end, steps-turn}
@@ -39,12 +40,26 @@ module _ (s : List ℕ) (at : ℕ) where
   pub seek-end : (d z : ℕ) → length s ≤ at → get_or (ahead s at) d z ≡ z
   seek-end d z h = rw (ahead-end h)
 
-  pub seek-here : (d z : ℕ) → at < length s → d ≡ 0 → get_or (ahead s at) d z ≡ at
-  seek-here d z h e = rw (ahead-next h, e)
+  seek-on : (d z : ℕ) → at < length s → get_or (ahead s at) (suc d) z ≡ get_or (ahead s (front_at s at).next) d z
+  seek-on d z h = rw (ahead-next h)
 
-  pub seek-turn : (d z : ℕ) → at < length s → (d ≡ 0 → ⊥) → get_or (ahead s at) d z ≡ get_or (ahead s (front_at s at).next) (d - 1) z
-  seek-turn zero z h n = absurd (n refl)
-  seek-turn (suc d) z h n = rw (ahead-next h, sub-one)
+  -- a turn at the end stays there
+  pub seek-turn : (d z : ℕ) → get_or (ahead s at) (suc d) z ≡ get_or (ahead s (front_at s at).next) d z
+  seek-turn d z = go (leb (length s) at) refl
+    where
+      go : (b : Bool) → leb (length s) at ≡ b → get_or (ahead s at) (suc d) z ≡ get_or (ahead s (front_at s at).next) d z
+      go false e = seek-on d z (leb-false (length s) at e)
+      go true e =
+          let l = leb-true (length s) at e in
+          let m : length s ≤ (front_at s at).next = omega arith in
+          seek-end (suc d) z l ∙ sym (rw (steps-end (λ x. (front_at s x).next) (length s) (front_at s at).next m))
+
+  pub seek-found : get_or (ahead s at) 0 (length s) ≡ min at (length s)
+  seek-found = go (leb (length s) at) refl
+    where
+      go : (b : Bool) → leb (length s) at ≡ b → get_or (ahead s at) 0 (length s) ≡ min at (length s)
+      go false e = let l = leb-false (length s) at e in rw (ahead-next l) (omega arith)
+      go true e = let l = leb-true (length s) at e in seek-end 0 (length s) l ∙ omega arith
 
 module _ (w : ℕ) (s : List ℕ) (at : ℕ) where
   pub region-end : length s ≤ at → region_ahead w s at ≡ []
@@ -75,8 +90,8 @@ pub file-some : {s : List ℕ} → File s → 0 < length s
 unfolding first_at
 file-some f = omega (arith, f.width.long)
 
-pub file-read : {s : List ℕ} {r : result.File} → FileIs s r → r.number ≡ 0 → File s
-file-read {s} i e = file-of s (sym i.number ∙ e)
+pub file-read : {s : List ℕ} {r : result.File} → AcceptedIs s r → File s
+file-read {s} i = file-of s i.accepted
 
 module _ {w : ℕ} {s : List ℕ} {at : ℕ} (o : AllAccepted w s at) (h : at < length s) where
   pub onward-record : Record false w 0 s at

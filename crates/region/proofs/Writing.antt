@@ -2,6 +2,7 @@
 --   all-bytes      a list whose every element is below 256 holds bytes
 --   front_length   how long the front is
 --   record-bytes   the front before the cubes makes the bytes of the difference that they hold
+--   limited-out    above the limits nothing else is looked at
 --   cubes-few, record-len, record-longest   within the limits: how many bytes the cubes take at most, and the record
 --   front-put, record-put     what a buffer holds when the front, or the record, was put and fits
 --   record-few, record-short, record-done   the ends of the writing: fewer cubes, no room, and both parts put
@@ -11,6 +12,7 @@ use native.Mathlib.Nat.{mul-le-mul, zero-add}
 use native.Mathlib.Omega.{arith}
 use mathlib.Core.Path.{◌≡◌, refl, sym, ap, ◌∙◌}
 use mathlib.Core.List.{List, [], ◌∷◌, append-nil}
+use mathlib.Core.Logic.{◌⊎◌}
 use lib.ListN.{length, get_or, take, drop}
 use lib.Seq.{length-take-le, take-add, drop-drop}
 use Rattle.format.specs.Limits.{widest_cube, most_cuts}
@@ -18,14 +20,14 @@ use Rattle.format.specs.Bytes.{Bytes, cube_len, codes, cube_bytes, write_cube}
 use Rattle.format.specs.Records.{front_len, cubes_bytes, front_bytes, difference_bytes}
 use Rattle.format.specs.Told.{over}
 use Rattle.format.proofs.Coding.{length-codes, write-padded, write_bytes, codes-tell}
-use Rattle.format.proofs.Recording.{bytes_take, bytes_drop}
-use Rattle.format.proofs.Reached.{reached}
+use Rattle.format.specs.Rows.{Rows, outcome}
+use Rattle.format.proofs.Reached.{reached, each}
 use Rattle.format.proofs.Recording.{bytes_take, bytes_drop}
 use Rattle.cube.specs.Lay.{put}
 use Rattle.cube.specs.Whole.{cube_of, whole_at, wholes_at}
 use Rattle.cube.proofs.Laying.{put-fits, put-long, over-more, length_over}
 use Rattle.cube.proofs.Wholes.{row-length}
-use Rattle.region.specs.Writing.{len_rows, record_len, longest_record, record_bytes, row_difference, front_rows, put_front, put_rows, put_record}
+use Rattle.region.specs.Writing.{limited, len_rows, record_len, longest_record, record_bytes, row_difference, front_rows, put_front, put_rows, put_record}
 
 pub all-bytes : (s : List ℕ) → ((i : ℕ) → get_or s i 0 < 256) → Bytes s
 all-bytes [] h = tt
@@ -59,6 +61,10 @@ record-bytes k q cubes h =
     let r = rw z at t in
     let d : (k + 1) * q ≡ suc k * q = omega arith in
     rw (row-length q cubes q k, e, r, d)
+
+pub limited-out : {A : Type 0} (k q : ℕ) (x : A) (rest : Rows A) → (most_cuts < k) ⊎ (widest_cube < q) → x ≡ outcome (limited k q x rest)
+limited-out k q x rest h =
+    each (λ y. x ≡ y) (limited k q x rest) (λ _. refl, λ f. (λ _. refl, λ g. let out : ⊥ = omega (arith, h) in absurd out))
 
 module _ (k q : ℕ) (few : k ≤ most_cuts) (short : q ≤ widest_cube) where
   pub cubes-few : (k + 1) * q ≤ (most_cuts + 1) * widest_cube
@@ -94,16 +100,15 @@ module _ (k q : ℕ) (few : k ≤ most_cuts) (short : q ≤ widest_cube) where
       record-short h = sym (put-long old 0 (record_bytes cubes k q) (omega (arith, size))) ∙ whole
 
       module _ (room : front_len k + (k + 1) * q ≤ length old) where
-        pub record-done : (mid new : List ℕ) → mid ≡ put_front old k q → new ≡ put mid (front_len k) (take ((k + 1) * q - 0) cubes)
+        pub record-done : (mid new : List ℕ) → mid ≡ put_front old k q → new ≡ put mid (front_len k) (take ((k + 1) * q) cubes)
             → new ≡ put_record old cubes k q
         unfolding front_len front_bytes
         record-done mid new e f =
             let part = take ((k + 1) * q) cubes in
-            let n : (k + 1) * q - 0 ≡ (k + 1) * q = omega arith in
             let l = length-take-le ((k + 1) * q) cubes enough in
             let m : mid ≡ over old (front_bytes k q) = e ∙ front-put old (omega arith) in
             let s : length mid ≡ length old = ap length m ∙ length_over old (front_bytes k q) (omega arith) in
-            rw n at f ∙ put-fits mid (front_len k) part (omega (arith, l, s))
+            f ∙ put-fits mid (front_len k) part (omega (arith, l, s))
             ∙ rw m (over-more old (front_bytes k q) part (front_len k) (omega arith))
             ∙ sym (put-fits old 0 (record_bytes cubes k q) (omega (arith, size)))
             ∙ whole

@@ -4,15 +4,13 @@
 --   held_by q h s a k    == they lie in the first cube from an offset on and in none of the k after it
 --   in_record w h s at   == they lie in the base of the record at an offset, of w positions, and in none of its cuts
 --   first_record w h s os == the first of the offsets os that in_record holds at
---   holder_of x          == the holder that the code gives back, as the model has it
+--   holder_of x          == the index of the first holder, or none, as the model has it
 --   or_held x b n        == the first holder where x is that of n differences, and b is whether the difference after them holds the header
-use Rattle.std.specs.Prelude.{ℕ, zero, suc, ◌+◌, List, [], ◌∷◌, Bool, false, cond, not, ◌&&◌, ◌||◌, take, drop}
+use Rattle.std.specs.Prelude.{ℕ, zero, suc, ◌+◌, List, [], ◌∷◌, Bool, false, cond, not, ◌&&◌, ◌||◌, take, drop, Option, None, Some}
 use Rattle.model.specs.Difference.{Holder, unheld, held, further}
 use Rattle.format.specs.Bytes.{cube_len}
 use Rattle.format.specs.Records.{count_at, base_at}
 use Rattle.cube.specs.Pair.{lies_in}
-use Rattle.region.specs.declared.member.Holder as code
-use Rattle.region.specs.declared.member.Holder.TheVariants.{Unheld, Held}
 
 unfoldable pub cube_in : ℕ → List ℕ → List ℕ → ℕ → Bool
 cube_in q h s a = lies_in (take q h) (take q (drop a s))
@@ -31,9 +29,9 @@ abbrev pub first_record : ℕ → List ℕ → List ℕ → List ℕ → Holder
 first_record w h s [] = unheld
 first_record w h s (at ∷ os) = cond (in_record w h s at) (held 0) (further (first_record w h s os))
 
-abbrev pub holder_of : code.Holder → Holder
-holder_of Unheld = unheld
-holder_of (Held i) = held i
+abbrev pub holder_of : Option ℕ → Holder
+holder_of None = unheld
+holder_of (Some i) = held i
 
 abbrev pub or_held : Holder → Bool → ℕ → Holder
 or_held unheld b n = cond b (held n) unheld

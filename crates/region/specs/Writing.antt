@@ -1,5 +1,6 @@
 -- What is written of a record.
 --   limited k q x rest     == x where k cuts or cubes of q bytes are above their limits, before the tests `rest`
+--   LimitedIs k q x         == x is the bytes of k + 1 cubes of q bytes, or none where k or q is above its limit
 --   len_rows k q            == the tests of the next line
 --   record_len k q          == the bytes of the whole record; 0 where k or q is above its limit
 --   longest_record          == a record has no more bytes than this
@@ -8,7 +9,7 @@
 --   front_rows, put_rows     == the tests of the next two lines
 --   put_front old k q       == a buffer that held old, with the front over its own; old where it does not fit, or where k or q is above its limit
 --   put_record old cubes k q == the same of the whole record; old also where there are fewer cubes
-use Rattle.std.specs.Prelude.{ℕ, ◌+◌, ◌*◌, List, ◌++◌, length, take}
+use Rattle.std.specs.Prelude.{ℕ, ◌≡◌, ◌+◌, ◌*◌, ◌≤◌, ◌<◌, ◌⊎◌, List, ◌++◌, length, take, Option, MatchOption}
 use Rattle.model.specs.Difference.{Difference, less}
 use Rattle.format.specs.Rows.{Rows, last, row, below, outcome}
 use Rattle.format.specs.Limits.{widest_cube, most_cuts}
@@ -18,6 +19,9 @@ use Rattle.cube.specs.Whole.{whole_at, wholes_at}
 
 abbrev pub limited : {A : Type 0} → ℕ → ℕ → A → Rows A → Rows A
 limited k q x rest = row (below most_cuts k) x (row (below widest_cube q) x rest)
+
+abbrev pub LimitedIs : ℕ → ℕ → Option ℕ → Type 0
+LimitedIs k q x = MatchOption x ((most_cuts < k) ⊎ (widest_cube < q)) (λ n. (k ≤ most_cuts) × (q ≤ widest_cube) × (n ≡ (k + 1) * q))
 
 abbrev pub len_rows : ℕ → ℕ → Rows ℕ
 len_rows k q = limited k q 0 (last (front_len k + (k + 1) * q))

@@ -3,16 +3,16 @@ ghost use Rattle.std.specs.Prelude.{◌≡◌, ◌<◌, get_or};
 ghost use Rattle.format.specs.Records.{u16_at};
 
 // The byte at a place.
-pub(crate) fn byte_at(s: &[u8], at: usize) -> usize
-    ensures { (result ≡ get_or s.now at 0) × (result < 256) }
+pub(crate) fn byte_at(s: &[u8], at: usize) -> u8
+    ensures { result ≡ get_or s.now at 0 }
 {
-    if at < s.len() { s[at] as usize } else { 0 }
+    s.get(at).copied().unwrap_or(0)
 }
 
 // Two bytes from a place on, little-endian.
-pub(crate) fn u16_at(s: &[u8], at: usize) -> usize
+pub(crate) fn u16_at(s: &[u8], at: usize) -> u16
     requires { at < 65536 }
-    ensures { (result ≡ u16_at s.now at) × (result < 65536) }
+    ensures { result ≡ u16_at s.now at }
 {
-    byte_at(s, at) + 256 * byte_at(s, at + 1)
+    u16::from_le_bytes([byte_at(s, at), byte_at(s, at + 1)])
 }

@@ -1,56 +1,44 @@
 // The reader of a whole region file.
 ghost use Rattle.std.specs.Prelude.{◌≡◌};
-ghost use Rattle.region.specs.Reader.{FileIs, refusal};
+ghost use Rattle.answer.specs.Answer.{fault};
+ghost use Rattle.answer.specs.Refusals.{number_of};
+ghost use Rattle.region.specs.Reader.{FileIs};
 
-use super::record::read_record;
-use super::width::{first_at, width_fault, width_of};
+use super::records::Records;
+use answer::{Answer, Refusal};
 
-// What reading a file finds: its refusal, 0 for none, and the offset of the record at fault; the width that kind 1 states; how many differences an
-// accepted file has.
-#[derive(Clone, Copy)]
+// An accepted file: the width that kind 1 states, and how many differences it has.
+#[derive(Clone, Copy, Debug, PartialEq, Eq)]
 pub struct File {
-    pub number: u8,
-    pub offset: usize,
     pub width: usize,
     pub count: usize,
 }
 
-impl File {
-    pub(crate) fn refused(number: u8, offset: usize, width: usize) -> File
-        ensures { result ≡ refusal number offset width }
+// Why a file is refused, the offset of the record at fault, and the width that kind 1 states.
+#[derive(Clone, Copy, Debug, PartialEq, Eq)]
+pub struct Refused {
+    pub refusal: Refusal,
+    pub offset: usize,
+    pub width: usize,
+}
+
+impl Refused {
+    // What a call answers that is lent the file as an operand.
+    pub fn of_operand(self, operand: u8) -> Answer
+        ensures { result ≡ fault (number_of self.refusal) operand self.offset }
     {
-        File {
-            number,
-            offset,
-            width,
-            count: 0,
-        }
+        self.refusal.of_operand(operand, self.offset)
     }
 }
 
 // Reads a region file from its start to its end, record after record.
-pub fn check_file(s: &[u8]) -> File
+pub fn check_file(s: &[u8]) -> Result<File, Refused>
     ensures { FileIs s.now result }
 {
-    let w = width_of(s);
-    let wrong = width_fault(s);
-    if wrong != 0 {
-        return File::refused(wrong, 0, w);
-    }
-    let mut at = first_at(s);
-    let mut n: usize = 0;
-    while at < s.len() {
-        let read = read_record(s, at, w, n);
-        if read.number != 0 {
-            return File::refused(read.number, at, w);
-        }
-        at = read.front.next;
-        n += 1;
-    }
-    File {
-        number: 0,
-        offset: 0,
-        width: w,
-        count: n,
-    }
+    let mut records = Records::begin(s)?;
+    while let Some(_) = records.read()? {}
+    Ok(File {
+        width: records.width,
+        count: records.count,
+    })
 }

@@ -4,14 +4,13 @@ ghost use Rattle.region.specs.Front.{FrontIs};
 
 use super::bytes::{byte_at, u16_at};
 use super::limits::{FRONT, LENGTH};
-use cube::least;
 
 // What the record at an offset says of itself: its length and its kind; and of a difference how many cuts it has, where its base starts and where it
 // ends.
-#[derive(Clone, Copy)]
+#[derive(Clone, Copy, Debug, PartialEq, Eq)]
 pub struct Front {
-    pub(crate) length: usize,
-    pub(crate) kind: usize,
+    pub(crate) length: u16,
+    pub(crate) kind: u16,
     pub cuts: usize,
     pub base: usize,
     pub next: usize,
@@ -22,22 +21,14 @@ pub fn front_at(s: &[u8], at: usize) -> Front
     ensures { FrontIs s.now at result × (result.length < 65536) }
 {
     let end = s.len();
-    if end <= at {
-        return Front {
-            length: 0,
-            kind: 0,
-            cuts: 0,
-            base: end,
-            next: end,
-        };
-    }
-    let rest = &s[at..];
+    let start = at.min(end);
+    let rest = &s[start..];
     let length = u16_at(rest, 0);
     Front {
         length,
         kind: u16_at(rest, 2),
-        cuts: byte_at(rest, 4),
-        base: at + least(FRONT, end - at),
-        next: at + least(LENGTH + length, end - at),
+        cuts: usize::from(byte_at(rest, 4)),
+        base: end.min(start + FRONT),
+        next: end.min(start + LENGTH + usize::from(length)),
     }
 }

@@ -5,6 +5,7 @@
 mod asking;
 mod bytes;
 mod calls;
+mod difference;
 mod files;
 mod frame;
 mod front;
@@ -14,15 +15,17 @@ mod member;
 mod offset;
 mod reader;
 mod record;
+mod records;
 mod steps;
 mod views;
 mod width;
 mod writer;
 
 pub use calls::{diff_member, region_member};
-pub use files::{File, check_file};
+pub use difference::Difference;
+pub use files::{File, Refused, check_file};
 pub use front::{Front, front_at};
-pub use lent::{one_refusal, record_refusal, two_refusal};
+pub use lent::{one_difference, record_refusal, two_differences, two_refusal};
 pub use limits::{MOST_CUTS, MOST_DIFFERENCES, TAKEN_CUTS, WIDTH_RECORD};
 pub use reader::{Reader, Turn, begin_reading, first_step, step_on};
 pub use steps::{Step, read_on};

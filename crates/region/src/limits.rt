@@ -6,7 +6,7 @@ pub const TAKEN_CUTS: usize = 2 * MOST_CUTS;
 
 pub const MOST_DIFFERENCES: usize = 256;
 
-pub(crate) const WIDTH_KIND: usize = 1;
+pub(crate) const WIDTH_KIND: u16 = 1;
 
 // The bytes of a record's length, which it does not count.
 pub(crate) const LENGTH: usize = 2;
@@ -16,7 +16,7 @@ pub(crate) const WIDTH_LENGTH: usize = 4;
 
 pub const WIDTH_RECORD: usize = LENGTH + WIDTH_LENGTH;
 
-pub(crate) const DIFFERENCE_KIND: usize = 2;
+pub(crate) const DIFFERENCE_KIND: u16 = 2;
 
 // The bytes of a difference's record in front of its base, and those of them that its length counts.
 pub(crate) const FRONT: usize = 5;

@@ -11,14 +11,8 @@ pub(crate) fn seek(s: &[u8], d: usize) -> usize
     ensures { result ≡ get_or (ahead s.now (first_at s.now)) d (length s.now) }
 {
     let mut at = first_at(s);
-    let mut left = d;
-    while at < s.len() {
-        if left == 0 {
-            return at;
-        }
-        let front = front_at(s, at);
-        at = front.next;
-        left -= 1;
+    for _ in 0..d {
+        at = front_at(s, at).next;
     }
-    s.len()
+    at.min(s.len())
 }

@@ -8,14 +8,14 @@ use super::steps::{Step, read_on};
 use answer::Answer;
 
 // A file that is read difference by difference, and the place of the next step.
-#[derive(Clone, Copy)]
+#[derive(Clone, Copy, Debug, PartialEq, Eq)]
 pub struct Reader<'a> {
     pub file: &'a [u8],
     pub place: usize,
 }
 
 // What a step of a reader gives: its result, and the reader with its next place.
-#[derive(Clone, Copy)]
+#[derive(Clone, Copy, Debug, PartialEq, Eq)]
 pub struct Turn<'a> {
     pub answer: Answer,
     pub reader: Reader<'a>,
@@ -32,13 +32,10 @@ pub fn begin_reading<'a>(file: &'a [u8]) -> Reader<'a>
 pub fn step_on<'a>(r: Reader<'a>) -> Turn<'a>
     ensures { result ≡ turned r.entry }
 {
-    let next = read_on(r.file, r.place);
+    let Step { answer, place } = read_on(r.file, r.place);
     Turn {
-        answer: next.answer,
-        reader: Reader {
-            file: r.file,
-            place: next.place,
-        },
+        answer,
+        reader: Reader { place, ..r },
     }
 }
 
@@ -46,9 +43,9 @@ pub fn step_on<'a>(r: Reader<'a>) -> Turn<'a>
 pub fn first_step(file: &[u8]) -> Step
     ensures { stepped result ≡ read_on file.now 0 }
 {
-    let t = step_on(begin_reading(file));
+    let Turn { answer, reader } = step_on(begin_reading(file));
     Step {
-        answer: t.answer,
-        place: t.reader.place,
+        answer,
+        place: reader.place,
     }
 }

@@ -1,101 +1,100 @@
 // The reader of a kind 2 record.
-ghost use Rattle.std.specs.Prelude.{◌≡◌, true, ◌+◌, ◌*◌, ◌≤◌, ◌<◌, length};
+ghost use Rattle.std.specs.Prelude.{◌≡◌, true, ◌≤◌};
+ghost use Rattle.answer.specs.Refusals.{code};
+ghost use Rattle.format.specs.Limits.{widest};
 ghost use Rattle.format.specs.Rows.{outcome};
-ghost use Rattle.format.specs.Bytes.{cube_len};
-ghost use Rattle.format.specs.Records.{cubes_fault, number_rows, difference_fault};
-ghost use Rattle.region.specs.Front.{FrontIs};
-ghost use Rattle.region.specs.Reader.{ReadIs};
+ghost use Rattle.format.specs.Records.{number_rows, difference_fault};
+ghost use Rattle.cube.specs.Row.{slices_of};
+ghost use Rattle.region.specs.Reader.{slices_fault, ReadIs};
 
-use super::frame::frame_fault;
-use super::front::{Front, front_at};
+use super::difference::Difference;
+use super::frame::Framed;
 use super::limits::{COUNTED, DIFFERENCE_KIND, MOST_CUTS, MOST_DIFFERENCES};
-use cube::{cube_fault, cube_len};
+use answer::Refusal;
+use cube::{Row, cube_fault, cube_len};
 
-// What the numbers of the record say is wrong with it, before its cubes are looked at, or 0. No two bytes say the length of a cube above 65,535 bytes.
-fn numbers_fault(s: &[u8], at: usize, front: Front, w: usize, n: usize, alone: bool) -> u8
-    requires { FrontIs s.now at front × (front.length < 65536) }
-    ensures { result ≡ outcome (number_rows alone w n s.now at) }
+// What the numbers of a kind 2 record say is wrong with it, before its cubes are looked at. No two bytes say the length of a cube above 65,535 bytes.
+fn numbers_fault(record: Framed, w: usize, n: usize, alone: bool) -> Result<(), Refusal>
+    ensures { code result ≡ outcome (number_rows alone w n record.entry.bytes.now record.entry.at) }
 {
-    let fault = frame_fault(s, at, front, DIFFERENCE_KIND);
-    if fault != 0 {
-        return fault;
-    }
+    record.frame_fault(DIFFERENCE_KIND)?;
     if MOST_DIFFERENCES <= n {
-        return 19;
+        return Err(Refusal::Differences);
     }
-    if front.length < COUNTED {
-        return 17;
+    let front = record.front;
+    let length = usize::from(front.length);
+    if length < COUNTED {
+        return Err(Refusal::Length);
     }
     if MOST_CUTS < front.cuts {
-        return 18;
+        return Err(Refusal::Cuts);
     }
     let q = cube_len(w);
     if 65535 < q {
-        return 17;
+        return Err(Refusal::Length);
     }
-    if front.length != COUNTED + (front.cuts + 1) * q {
-        return 17;
+    if length != COUNTED + (front.cuts + 1) * q {
+        return Err(Refusal::Length);
     }
-    if alone {
-        if front.next != s.len() {
-            return 17;
-        }
+    if alone && front.next != record.bytes.len() {
+        return Err(Refusal::Length);
     }
-    0
+    Ok(())
 }
 
-// What is wrong with the first bad one of k cubes from an offset on, or 0.
-fn cubes_fault(s: &[u8], at: usize, w: usize, k: usize) -> u8
-    requires { at + k * cube_len w ≤ length s.now }
-    ensures { result ≡ cubes_fault w s.now at k }
+// What is wrong with the first bad one of some cubes of w positions.
+fn cubes_fault(cubes: Row, w: usize) -> Result<(), Refusal>
+    ensures { code result ≡ slices_fault w (slices_of cubes.entry) }
 {
-    let q = cube_len(w);
-    let mut a = at;
-    let mut left = k;
-    while 0 < left {
-        let fault = cube_fault(&s[a..a + q], w);
-        if fault != 0 {
-            return fault;
-        }
-        a += q;
-        left -= 1;
+    for cube in cubes {
+        cube_fault(cube, w)?;
     }
-    0
+    Ok(())
 }
 
-// What is wrong with the kind 2 record at an offset, which has that front, with n differences before it: 13 to 19, or 0. `alone`: nothing may follow it.
-fn front_fault(s: &[u8], at: usize, front: Front, w: usize, n: usize, alone: bool) -> u8
-    requires { FrontIs s.now at front × (front.length < 65536) }
-    ensures { result ≡ difference_fault alone w n s.now at }
+// What is wrong with a kind 2 record, with n differences before it. `alone`: nothing may follow it.
+fn record_fault(record: Framed, w: usize, n: usize, alone: bool) -> Result<(), Refusal>
+    ensures { code result ≡ difference_fault alone w n record.entry.bytes.now record.entry.at }
 {
-    let fault = numbers_fault(s, at, front, w, n, alone);
-    if fault != 0 {
-        return fault;
-    }
-    cubes_fault(s, front.base, w, front.cuts + 1)
+    numbers_fault(record, w, n, alone)?;
+    let front = record.front;
+    let cubes = Row {
+        bytes: &record.bytes[front.base..],
+        size: cube_len(w),
+        count: front.cuts + 1,
+    };
+    cubes_fault(cubes, w)
 }
 
 // What is wrong with a record that is lent alone.
-pub(crate) fn alone_fault(s: &[u8], w: usize) -> u8
-    ensures { result ≡ difference_fault true w 0 s.now 0 }
+pub(crate) fn alone_fault(s: &[u8], w: usize) -> Result<(), Refusal>
+    ensures { code result ≡ difference_fault true w 0 s.now 0 }
 {
-    front_fault(s, 0, front_at(s, 0), w, 0, true)
+    record_fault(Framed::read(s, 0), w, 0, true)
 }
 
-// A record of a file that was read: what is wrong with it, or 0, and its front.
-#[derive(Clone, Copy)]
-pub(crate) struct Read {
-    pub(crate) number: u8,
-    pub(crate) front: Front,
+// A record of a file: its difference, and where the next one starts.
+#[derive(Clone, Copy, Debug, PartialEq, Eq)]
+pub(crate) struct Record<'a> {
+    pub(crate) difference: Difference<'a>,
+    pub(crate) next: usize,
 }
 
 // Reads the record at an offset of a file of that width, with n differences before it.
-pub(crate) fn read_record(s: &[u8], at: usize, w: usize, n: usize) -> Read
+pub(crate) fn read_record<'a>(
+    s: &'a [u8],
+    at: usize,
+    w: usize,
+    n: usize,
+) -> Result<Record<'a>, Refusal>
+    requires { w ≤ widest }
     ensures { ReadIs w n s.now at result }
 {
-    let front = front_at(s, at);
-    Read {
-        number: front_fault(s, at, front, w, n, false),
-        front,
-    }
+    let record = Framed::read(s, at);
+    record_fault(record, w, n, false)?;
+    let front = record.front;
+    Ok(Record {
+        difference: Difference::at(s, front, cube_len(w)),
+        next: front.next,
+    })
 }

@@ -7,10 +7,8 @@
 --   digit-below, digit-top  the digits below 2 ^ n of a number, and the digit 2 ^ n of one that has it at the top
 --   threes-at               a word of all digits has 3 at each place
 --   openings-right          the places where a cut opens a piece, by `&`, `^` and `>>`
---   Top, top_of             the highest digit of a number
 --   given-right             a digit 3 of base 4 made smaller
 --   taken-fits, taken-there    what is taken off for that is a word, and no more than there is
---   leading-small           a word that is not 0 has at most 63 leading zeros
 use Prim.Native.Nat.{ℕ, zero, suc, ◌+◌, ◌-◌, ◌*◌, ◌/◌, ◌%◌, ◌^◌, ◌≤◌, ◌<◌}
 use native.Mathlib.Nat.{mod-lt, add-mul, mul-add-mod_self_right, mul-le-mul_right}
 use native.Mathlib.Omega.{arith}
@@ -18,7 +16,6 @@ use mathlib.Core.Path.{◌≡◌, refl, sym, ap, ◌∙◌}
 use mathlib.Core.Bool.{Bool, true, false, ◌&&◌}
 use mathlib.Core.Logic.{◌⊎◌, inl, inr, ⊎_elim}
 use lib.Dec.{T, eqb, eqb→eq, lit<}
-use lib.Count.{count_leading_zeros, leading_top}
 use lib.Pow.{pow_pos, split, high, low, shr-shr, shl_exact, field, mod-mod-pow}
 use lib.Bits.{bit_and, bit_or, bit_xor, and_shr, and_mod, or_shr, or_mod, xor_shr, xor_mod, and_mask, and_le_l, and_le_r, or_add_and, xor_add_and}
 use Rattle.model.specs.Walk.{opens}
@@ -155,18 +152,6 @@ openings-right x y k h =
     ∙ rw (ones-at k h, low, and_mask (z % 4) 1, quarter, one, ex, ey)
     (bits-open (X % 2) (X / 2 % 2) (Y % 2) (Y / 2 % 2) (mod-lt X (lit< tt)) (mod-lt (X / 2) (lit< tt)) (mod-lt Y (lit< tt)) (mod-lt (Y / 2) (lit< tt)))
 
--- the highest digit
-pub record Top (x n : ℕ) : Type 0 where
-  pub small : n < 64
-  pub under : x < 2 ^ suc n
-  pub over : 2 ^ n ≤ x
-
-pub top_of : (x : ℕ) → (x ≡ 0 → ⊥) → x < 2 ^ 64 → Top x (63 - count_leading_zeros 64 x)
-top_of x h l =
-    let t = leading_top 64 x (omega arith) l in
-    let e : 63 - count_leading_zeros 64 x ≡ t.0 = omega (arith, t.1) in
-    rw e (record { small = omega (arith, t.1); under = t.3; over = t.2 })
-
 pub given-right : (x k v : ℕ) → k < 32 → v ≤ 3 → place_at x k ≡ 3 → GivenWord x k v (x - (3 - v) * 2 ^ (62 - 2 * k))
 given-right x k v h l e = (at, elsewhere)
   where
@@ -213,6 +198,3 @@ taken-there x k v e =
     let s = 62 - 2 * k in
     let q : 3 - v ≤ x / 2 ^ s = omega arith in
     omega (arith, mul-le-mul_right (2 ^ s) q, split x s)
-
-pub leading-small : (x : ℕ) → (x ≡ 0 → ⊥) → x < 2 ^ 64 → count_leading_zeros 64 x ≤ 63
-leading-small x h l = omega (arith, (leading_top 64 x (omega arith) l).1)

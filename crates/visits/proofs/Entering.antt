@@ -2,10 +2,9 @@
 --   DigitMore, digit-more     a number takes a digit above all that it has
 --   free-words                words of all digits are a cube of free positions
 --   fresh, enter-fits, enter-turn, enter-end   a cut is entered, position by position
---   agree-turn                where a position takes the cut's code, the others are free or the cut's as before
---   EnteredAll, entered-none, entered-more  the cuts are entered, one after another
+--   Agrees, agree-turn                where a position takes the cut's code, the others are free or the cut's as before
+--   EnteredAll, entered-more  the cuts are entered, one after another
 --   met-more                  the cuts that a piece meets, one after another
---   part-row                  the part of the bytes that is lent is the cut of row m
 use Prim.Native.Nat.{ℕ, zero, suc, ◌+◌, ◌-◌, ◌*◌, ◌/◌, ◌%◌, ◌^◌, ◌≤◌, ◌<◌}
 use native.Mathlib.Nat.{div-eq_of_lt}
 use native.Mathlib.Omega.{arith}
@@ -13,18 +12,17 @@ use mathlib.Core.Path.{◌≡◌, refl, sym, ap, ◌∙◌}
 use mathlib.Core.Bool.{Bool, true, false, true≢false}
 use mathlib.Core.Logic.{◌⊎◌, inr, ⊎_elim}
 use mathlib.Core.List.{List}
-use lib.ListN.{length, get_or, set, take, drop, replicate, get_or-replicate}
+use lib.ListN.{length, get_or, set, replicate, get_or-replicate}
 use lib.Seq.{get_or-set_same, get_or-set_other}
 use Rattle.model.specs.Cube.{Code, none, v0, v1, free, Cube, shares}
 use Rattle.model.specs.Walk.{opens}
 use Rattle.format.specs.Bytes.{code_of, codes}
-use Rattle.cube.specs.Whole.{cube_of, whole_at}
+use Rattle.cube.specs.declared.row.Row.{Row}
 use Rattle.visits.specs.Opening.{bit, first_open}
 use Rattle.visits.specs.Words.{number_in, cube_of_words, row_cube}
 use Rattle.visits.specs.Alive.{digit, clash, Against}
-use Rattle.visits.specs.Loading.{Entered, Met, row_of}
+use Rattle.visits.specs.Loading.{cut_in, Entered, Met}
 use Rattle.visits.proofs.Digits.{same_or_not, digit-below, digit-top, threes-at}
-use Rattle.visits.proofs.Carrying.{Down}
 use Rattle.visits.proofs.Meeting.{pow-double}
 use Rattle.visits.proofs.WordCubes.{words-length, words-at, before-first}
 
@@ -40,6 +38,10 @@ digit-more m x true h =
 digit-more m x false h =
     let e : x + 2 ^ m * 0 ≡ x = omega arith in
     record { under = omega (arith, pow-double m); below = λ j l. rw e; top = rw (e, div-eq_of_lt h) }
+
+-- the codes of near are free or those of the cut
+abbrev pub Agrees : Cube → Cube → Type 0
+Agrees near cut = (j : ℕ) → j < 320 → (get_or near j none ≡ free) ⊎ (get_or near j none ≡ get_or cut j none)
 
 -- all free
 pub free-words : (j : ℕ) → j < 320 → get_or (cube_of_words (replicate 10 18446744073709551615)) j none ≡ free
@@ -110,10 +112,10 @@ module _ (rows : List ℕ) (near : Cube) (one : ℕ) (after : List ℕ) (en : En
           ∙ en i v h w ∙ rw (un, clash-free (code_of (suc v)), clash-same v y least most w q))
           (same_or_not v (2 - y)))
 
-pub enter-end : (rows near cut : List ℕ) (one i : ℕ) (after : List ℕ) → 320 ≤ i → i ≡ first_open (cube_of_words near) (cube_of_words cut)
-    → ((j : ℕ) → j < 320 → (get_or (cube_of_words near) j none ≡ free) ⊎ (get_or (cube_of_words near) j none ≡ get_or (cube_of_words cut) j none))
+pub enter-end : (rows near cut : List ℕ) (one : ℕ) (after : List ℕ) → 320 ≤ first_open (cube_of_words near) (cube_of_words cut)
+    → Agrees (cube_of_words near) (cube_of_words cut)
     → Entered rows (cube_of_words near) one after → Entered rows (cube_of_words cut) one after
-enter-end rows near cut one i after h f ag en j v k w =
+enter-end rows near cut one after h ag en j v k w =
     en j v k w
     ∙ ⊎_elim
     (λ (e : get_or (cube_of_words near) j none ≡ free).
@@ -122,7 +124,7 @@ enter-end rows near cut one i after h f ag en j v k w =
     (λ (e : get_or (cube_of_words near) j none ≡ get_or (cube_of_words cut) j none). rw e) (ag j k)
 
 pub agree-turn : (near cut : Cube) (i : ℕ) (y : Code) (p : Cube) → i < length near → p ≡ set near i y → y ≡ get_or cut i none
-    → ((j : ℕ) → j < 320 → (get_or near j none ≡ free) ⊎ (get_or near j none ≡ get_or cut j none)) → (j : ℕ) → j < 320 → (get_or p j none ≡ free) ⊎ (get_or p j none ≡ get_or cut j none)
+    → Agrees near cut → Agrees p cut
 agree-turn near cut i y p l ep ey ag j h =
     rw ep (⊎_elim (λ (e : j ≡ i). inr (rw (e, get_or-set_same near i y none l) ey)) (λ (n : j ≡ i → ⊥). rw (get_or-set_other near i j y none n) (ag j h)) (same_or_not j i))
 
@@ -152,21 +154,12 @@ entered-more cuts m rows after one eo l en e = record { long = l; small = small;
         rw (en i v h k, eo)
         (⊎_elim (λ (q : j ≡ m). rw q (more i v h k).top) (λ (q : j ≡ m → ⊥). (more i v h k).below j (omega arith) ∙ e.right i v h k j (omega arith)) (same_or_not j m))
 
-pub entered-none : (cuts : List (List ℕ)) (rows : List ℕ) → length rows ≡ 640 → ((k : ℕ) → get_or rows k 0 ≡ 0) → EnteredAll cuts 0 rows
-entered-none cuts rows l z = record { long = l; small = λ k h. omega (arith, z k); right = λ i v h k j d. absurd (omega arith) }
-
 -- the cuts that a piece meets
-pub met-more : (q : ℕ) (s : List ℕ) (at n : ℕ) (p : Cube) (m x y : ℕ) (b : Bool) → y ≡ x + 2 ^ m * bit b → b ≡ shares p (row_of q s at n m) → Met q s at n p m x → Met q s at n p (m + 1) y
-met-more q s at n p m x y b ey eb e =
+pub met-more : (r : Row) (p : Cube) (m x y : ℕ) (b : Bool) → y ≡ x + 2 ^ m * bit b → b ≡ shares p (codes (cut_in r m)) → Met r p m x → Met r p (m + 1) y
+met-more r p m x y b ey eb e =
     let d = digit-more m x b e.0 in
     let s' : m + 1 ≡ suc m = omega arith in
     rw ey (
       rw s' d.under,
       λ j h. ⊎_elim (λ (z : j ≡ m). rw z (d.top ∙ ap bit eb)) (λ (z : j ≡ m → ⊥). d.below j (omega arith) ∙ e.1 j (omega arith)) (same_or_not j m),
     )
-
-pub part-row : (q : ℕ) (s : List ℕ) (at n m here len : ℕ) → Down at n m q here len → codes (take (here - (here - q)) (drop (here - q) s)) ≡ row_of q s at n m
-unfolding whole_at cube_of
-part-row q s at n m here len d =
-    let e : here - (here - q) ≡ q = omega (arith, d.there) in
-    rw (e, d.row)

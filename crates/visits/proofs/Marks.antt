@@ -3,7 +3,7 @@
 --   and-marks                  the AND of both marks the places that open
 --   first-here, first-later    the first place that opens: in these bytes, or in those after them
 --   byte-opens, byte-passed, bytes-ended    the search for it, byte by byte
-use Prim.Native.Nat.{ℕ, suc, ◌+◌, ◌*◌, ◌/◌, ◌%◌, ◌≤◌, ◌<◌}
+use Prim.Native.Nat.{ℕ, suc, ◌+◌, ◌*◌, ◌/◌, ◌%◌, ◌^◌, ◌≤◌, ◌<◌}
 use native.Mathlib.Omega.{arith}
 use mathlib.Core.Path.{◌≡◌, refl, ◌∙◌}
 use mathlib.Core.Bool.{Bool, true, false, cond, ◌&&◌}
@@ -11,15 +11,16 @@ use mathlib.Core.List.{List, ◌∷◌}
 use lib.ListN.{length, get_or, drop}
 use lib.Seq.{drop-cons}
 use lib.Bits.{bit_and, bit_xor, and_block}
-use lib.Count.{count_leading_zeros}
+use lib.Count.{count_leading_zeros, leading_top}
 use lib.Dec.{eqb, eqb→eq}
 use Rattle.model.specs.Cube.{Code, none, v0, v1, free}
 use Rattle.model.specs.Walk.{opens}
 use Rattle.format.specs.Bytes.{code_of, codes, is_free}
 use Rattle.format.proofs.Coding.{length-codes}
 use Rattle.cube.proofs.Every.{below}
-use Rattle.visits.specs.Opening.{first_open, is_fixed, bit, quads, marks, openings}
-use Rattle.visits.proofs.Openings.{first-most, first-drop}
+use Rattle.visits.specs.Opening.{first_open, FirstOpen, is_fixed, bit, quads, marks, openings}
+use Rattle.std.specs.Prelude.{Some, None}
+use Rattle.visits.proofs.Openings.{first-drop, first-found, first-left}
 use Rattle.cube.proofs.Codes.{codes-drop}
 
 pub free-right : (x : ℕ) → x < 256 → bit_and (bit_and x (x / 2)) 85 ≡ marks is_free x
@@ -112,11 +113,15 @@ module _ (xs ys : List ℕ) (e : length xs ≡ length ys) (b : ℕ) (h : b < len
       first-drop (4 * b) (codes xs) (codes ys) (omega (arith, length-codes xs, length-codes ys)) k
       ∙ rw (← codes-drop b xs, ← codes-drop b ys, drop-cons xs b 0 h, drop-cons ys b 0 l)
 
-  pub byte-opens : (openings (get_or xs b 0) (get_or ys b 0) ≡ 0 → ⊥) → 4 * b + count_leading_zeros 8 (openings (get_or xs b 0) (get_or ys b 0)) / 2 ≡ first_open (codes xs) (codes ys)
-  byte-opens n = omega (arith, from_byte, first-here (get_or xs b 0) (get_or ys b 0) (drop (suc b) xs) (drop (suc b) ys) n)
+  pub byte-opens : (m k : ℕ) → m ≡ openings (get_or xs b 0) (get_or ys b 0) → k ≡ count_leading_zeros 8 m / 2 → (m ≡ 0 → ⊥) → m < 2 ^ 8 → FirstOpen (codes xs) (codes ys) (Some (4 * b + k))
+  byte-opens m k em ek n f =
+      let t = leading_top 8 m (omega arith) f in
+      let s : k < 4 = omega (arith, t.1) in
+      let here = rw (← em, ← ek) at (first-here (get_or xs b 0) (get_or ys b 0) (drop (suc b) xs) (drop (suc b) ys) (λ z. n (em ∙ z))) in
+      first-found (codes xs) (codes ys) (4 * b + k) (omega (arith, from_byte, here)) (omega (arith, length-codes xs))
 
   pub byte-passed : openings (get_or xs b 0) (get_or ys b 0) ≡ 0 → 4 * (b + 1) ≤ first_open (codes xs) (codes ys)
   byte-passed n = omega (arith, from_byte, first-later (get_or xs b 0) (get_or ys b 0) (drop (suc b) xs) (drop (suc b) ys) n)
 
-pub bytes-ended : (xs ys : List ℕ) (b : ℕ) → length xs ≤ b → 4 * b ≤ first_open (codes xs) (codes ys) → 4 * b ≡ first_open (codes xs) (codes ys)
-bytes-ended xs ys b h k = omega (arith, first-most (codes xs) (codes ys), length-codes xs)
+pub bytes-ended : (xs ys : List ℕ) (b : ℕ) → length xs ≤ b → 4 * b ≤ first_open (codes xs) (codes ys) → FirstOpen (codes xs) (codes ys) None
+bytes-ended xs ys b h k = first-left (codes xs) (codes ys) (omega (arith, length-codes xs))

@@ -1,8 +1,12 @@
 -- One turn of a visit over words: the first position that the cut opens takes a value.
 --   Opens x y             == x is the number of the code `free`, and y that of a value
---   Opened, opened        what is known of that position
+--   open-inside           that position is one of the 320
+--   Opened, opened        what is known of it
 --   took-cube, took-alive   the piece with a value there, and the cuts that it meets
---   later_first           then the next position is a later one
+--   child-alive, agreed-alive   the cuts that the child meets, and those that the piece that goes on does
+--   child-stops, child-covered   what the child says is the answer, or the piece goes on
+--   none-opens            no position opens: the piece is covered
+--   later_first           where the position takes the cut's value, the next is a later one
 --   begun                 how the visit begins
 --   survives-stops        a piece that no cut meets ends the walk
 --   tells-covered         what a covered reply says
@@ -16,19 +20,21 @@ use mathlib.Core.List.{List, []}
 use lib.Dec.{lit<}
 use lib.ListN.{length, get_or, set}
 use lib.Bits.{bit_and, bit_xor}
-use Rattle.model.specs.Cube.{Code, none, v0, v1, free, Cube, shares}
-use Rattle.model.specs.Walk.{opens, other, visit}
+use Rattle.model.specs.Cube.{none, v0, v1, free, Cube, shares}
+use Rattle.model.specs.Walk.{Found, opens, other, visit}
 use Rattle.format.specs.Bytes.{code_of}
-use Rattle.visits.specs.Opening.{first_open}
-use Rattle.visits.specs.Settle.{after, settle, left_from}
+use Rattle.visits.specs.Opening.{first_open, FirstOpen}
+use Rattle.std.specs.Prelude.{Option, Some, None}
+use Rattle.visits.specs.Settle.{Said, after, settle, left_from}
 use Rattle.visits.specs.Words.{place_at, number_in, code_in, cube_of_words, row_cube, cuts_below, GivenWord}
 use Rattle.visits.specs.Alive.{Alive, Against}
 use Rattle.visits.specs.Replies.{tells, survives}
 use Rattle.visits.specs.declared.allowance.Allowance.{Allowance}
 use Rattle.visits.specs.declared.allowance.Verdict.TheVariants.{Covered, Survives, Undecided}
-use Rattle.visits.specs.declared.reply.Reply.{Reply}
+use Rattle.visits.specs.declared.allowance.Outcome.{Outcome}
 use Rattle.visits.proofs.Openings.{first-opens, first-after}
 use Rattle.visits.proofs.WordCubes.{words-length, words-at, words-given}
+use Rattle.visits.proofs.Turn.{turn_end, turn-covered, turn-stop}
 use Rattle.visits.proofs.Settle.{settle-on, settle-le, settle-lt}
 use Rattle.visits.proofs.Digits.{below_or}
 use Rattle.visits.proofs.Meeting.{alive-child, rows-met}
@@ -57,7 +63,12 @@ value-number (suc zero) h k = inl refl
 value-number (suc (suc zero)) h k = inr refl
 value-number (suc (suc (suc y))) h k = absurd (omega arith)
 
+pub open-inside : (near cut : List ℕ) (r : Option ℕ) (i : ℕ) → FirstOpen (cube_of_words near) (cube_of_words cut) r → r ≡ Some i → i < 320
+open-inside near cut r i s e = omega (arith, (s.found i e).1, words-length near)
+
 pub record Opened (near cut : List ℕ) (i y : ℕ) : Type 0 where
+  pub inside : i < 320
+  pub first : i ≡ first_open (cube_of_words near) (cube_of_words cut)
   pub place : place_at (get_or near (i / 32) 0) (i % 32) ≡ 3
   pub unfixed : get_or (cube_of_words near) i none ≡ free
   pub least : 1 ≤ y
@@ -65,14 +76,19 @@ pub record Opened (near cut : List ℕ) (i y : ℕ) : Type 0 where
   pub fixed : code_of y ≡ get_or (cube_of_words cut) i none
   pub turned : code_of (3 - y) ≡ other (code_of y)
 
-pub opened : (near cut : List ℕ) (i y : ℕ) → i ≡ first_open (cube_of_words near) (cube_of_words cut) → i < 320 → y ≡ number_in cut i
+pub opened : (near cut : List ℕ) (r : Option ℕ) (i y : ℕ) → FirstOpen (cube_of_words near) (cube_of_words cut) r → r ≡ Some i → y ≡ number_in cut i
     → Opened near cut i y
 unfolding number_in
-opened near cut i y f h e =
-    let o = first-opens (cube_of_words near) (cube_of_words cut) (words-length near ∙ sym (words-length cut)) (omega (arith, words-length near)) in
+opened near cut r i y s is e =
+    let g = s.found i is in
+    let f = g.0 in
+    let h = open-inside near cut r i s is in
+    let o = first-opens (cube_of_words near) (cube_of_words cut) (words-length near ∙ sym (words-length cut)) (omega (arith, f, g.1)) in
     let b : opens (code_in near i) (code_in cut i) ≡ true = rw (← f, words-at near i h, words-at cut i h) at o in
     let n = opens-numbers (number_in near i) (number_in cut i) (mod-lt _ (lit< tt)) (mod-lt _ (lit< tt)) b in
     record {
+      inside = h;
+      first = f;
       place = n.three;
       unfixed = words-at near i h ∙ ap code_of n.three;
       least = omega (arith, n.least);
@@ -94,16 +110,53 @@ module _ (near : List ℕ) (i v word : ℕ) (l : length near ≡ 10) (h : i < 32
       alive-child cuts n (cube_of_words near) (cube_of_words (set near (i / 32) word)) i (code_of v) met (get_or against (2 * i + (v - 1)) 0) r m
       (rw s at (t i (v - 1) h (omega arith))) (value-number v a b) o took-cube e
 
-pub later_first : (near cut : List ℕ) (i : ℕ) (y : Code) (p : Cube) → i ≡ first_open (cube_of_words near) (cube_of_words cut) → i < 320
-    → y ≡ get_or (cube_of_words cut) i none → p ≡ set (cube_of_words near) i y
-    → i < first_open p (cube_of_words cut)
-later_first near cut i y p f h e c =
-    rw (c, e)
-    (rw (← f) at (first-after (cube_of_words near) (cube_of_words cut) (words-length near ∙ sym (words-length cut)) (omega (arith, words-length near))))
+-- the child has the other value there, and the piece that goes on has the cut's
+module _ (near cut : List ℕ) (i y : ℕ) (l : length near ≡ 10) (o : Opened near cut i y) where
+  module _ (cuts : List (List ℕ)) (n : ℕ) (against : List ℕ) (met : ℕ) (m : Alive cuts n (cube_of_words near) met) (t : Against cuts n against) where
+    pub child-alive : (word r : ℕ) → GivenWord (get_or near (i / 32) 0) (i % 32) (3 - y) word → r ≡ bit_xor met (bit_and met (get_or against (2 * i + (3 - y - 1)) 0))
+        → Alive cuts n (cube_of_words (set near (i / 32) word)) r
+    child-alive word r g = took-alive near i (3 - y) word l o.inside g cuts n against met r o.unfixed (omega (arith, o.most)) (omega (arith, o.least)) m t
+
+    pub agreed-alive : (word r : ℕ) → GivenWord (get_or near (i / 32) 0) (i % 32) y word → r ≡ bit_xor met (bit_and met (get_or against (2 * i + (y - 1)) 0))
+        → Alive cuts n (cube_of_words (set near (i / 32) word)) r
+    agreed-alive word r g = took-alive near i y word l o.inside g cuts n against met r o.unfixed o.least o.most m t
+
+  -- f visits the child, and v is what that visit says
+  module _ (f : Cube → Found) (have : Allowance) (word : ℕ) (g : GivenWord (get_or near (i / 32) 0) (i % 32) (3 - y) word) (v : Said)
+      (r : v ≡ settle have (f (cube_of_words (set near (i / 32) word)))) where
+    even : length (cube_of_words near) ≡ length (cube_of_words cut)
+    even = words-length near ∙ sym (words-length cut)
+
+    pub child-stops : (v.verdict ≡ Covered → ⊥) → left_from f (cube_of_words cut) have (cube_of_words near) ≡ v
+    child-stops =
+        turn-stop f (cube_of_words cut) (cube_of_words near) have even i o.first (omega (arith, o.inside, words-length near)) (code_of y) (code_of (3 - y)) o.fixed o.turned
+        (cube_of_words (set near (i / 32) word)) (took-cube near i (3 - y) word l o.inside g) v r
+
+    pub child-covered : v.verdict ≡ Covered → (p : Cube) → p ≡ set (cube_of_words near) i (code_of y)
+        → left_from f (cube_of_words cut) have (cube_of_words near) ≡ left_from f (cube_of_words cut) v.allowance p
+    child-covered k p e =
+        turn-covered f (cube_of_words cut) (cube_of_words near) have even i o.first (omega (arith, o.inside, words-length near)) (code_of y) (code_of (3 - y)) o.fixed o.turned
+        (cube_of_words (set near (i / 32) word)) (took-cube near i (3 - y) word l o.inside g) v r k
+        ∙ ap (left_from f (cube_of_words cut) v.allowance) (sym e)
+
+-- no position opens
+pub none-opens : (f : Cube → Found) (near cut : List ℕ) (r : Option ℕ) (have : Allowance) → FirstOpen (cube_of_words near) (cube_of_words cut) r → r ≡ None
+    → left_from f (cube_of_words cut) have (cube_of_words near) ≡ record { allowance = have; verdict = Covered; piece = [] }
+none-opens f near cut r have s e = turn_end f (cube_of_words cut) (cube_of_words near) have (words-length near ∙ sym (words-length cut)) (s.none_left e)
+
+-- the position takes the cut's value: the next one that opens is a later one
+pub later_first : (near cut : List ℕ) (i y : ℕ) (p : Cube) → Opened near cut i y → p ≡ set (cube_of_words near) i (code_of y)
+    → (i < first_open p (cube_of_words cut)) × (i / 32 ≤ 10) × (32 * (i / 32) ≤ first_open p (cube_of_words cut))
+later_first near cut i y p o c = (later, omega (arith, o.inside), omega (arith, later))
+  where
+    later : i < first_open p (cube_of_words cut)
+    later =
+        rw (c, o.fixed)
+        (rw (← o.first) at (first-after (cube_of_words near) (cube_of_words cut) (words-length near ∙ sym (words-length cut)) (omega (arith, words-length near, o.first, o.inside))))
 
 pub begun : (cuts : List (List ℕ)) (n : ℕ) (p : Cube) (a b : Allowance) → 0 < a.left → b ≡ after a 1 → shares p (row_cube cuts n) ≡ true
-    → settle a (visit (cuts_below cuts (suc n)) p) ≡ left_from (visit (cuts_below cuts n)) (row_cube cuts n) b p
-unfolding left_from
+    → settle a (visit (cuts_below cuts (suc n)) p) ≡ left_from (visit (cuts_below cuts n)) (cube_of_words (get_or cuts n [])) b p
+unfolding left_from row_cube
 begun cuts n p a b h e m = rw (rows-met cuts n p m, e) (settle-on a 1 _ h)
 
 pub survives-stops : (a : Allowance) (p : Cube) → (settle a (survives p)).verdict ≡ Covered → ⊥
@@ -111,5 +164,5 @@ survives-stops a p e =
     ⊎_elim (λ (k : a.left < 1). let q : Undecided ≡ Covered = rw (settle-lt a (survives p) k) at e in let z : ◌≡◌ {A = ℕ} 0 1 = cc in omega arith)
     (λ (k : 1 ≤ a.left). let q : Survives ≡ Covered = rw (settle-le a (survives p) k) at e in let z : ◌≡◌ {A = ℕ} 0 1 = cc in omega arith) (below_or a.left 1)
 
-pub tells-covered : (r : Reply) → r.verdict ≡ Covered → tells r ≡ record { allowance = r.allowance; verdict = Covered; piece = [] }
+pub tells-covered : (r : Outcome (List ℕ)) → r.verdict ≡ Covered → tells r ≡ record { allowance = r.allowance; verdict = Covered; piece = [] }
 tells-covered r e = rw e

@@ -5,16 +5,21 @@
 --   children-none    where no position opens there is none
 --   first-drop       what stands before it can be left out
 --   first-after      where the piece agrees with the cut, the next is a later one
+--   for-some         P of the value that an Option has
+--   first-found, first-left   the search for the first position ends at it, or where there is none
 use Prim.Native.Nat.{ℕ, zero, suc, ◌+◌, ◌≤◌, ◌<◌}
 use native.Mathlib.Nat.{zero-add}
 use native.Mathlib.Omega.{arith}
-use mathlib.Core.Path.{◌≡◌, refl, ap}
+use mathlib.Core.Path.{◌≡◌, refl, sym, subst, ap}
 use mathlib.Core.Bool.{Bool, true, false, cond}
 use mathlib.Core.List.{[], ◌∷◌, map}
 use lib.ListN.{length, get_or, drop, set}
 use Rattle.model.specs.Cube.{Code, none, v0, v1, free, Cube}
 use Rattle.model.specs.Walk.{opens, other, children}
-use Rattle.visits.specs.Opening.{first_open}
+use Rattle.visits.specs.Opening.{first_open, FirstOpen}
+use Rattle.std.specs.Prelude.{Some, None}
+use Rattle.std.specs.Option.{ForSome}
+use Rattle.std.proofs.lemmas.Option.{none-some}
 
 pub first-most : (p c : Cube) → first_open p c ≤ length p
 unfolding first_open
@@ -93,3 +98,12 @@ first-after (x ∷ p) (y ∷ c) e h = go (opens x y) refl h (first-after p c (om
         → cond b 0 (suc (first_open p c)) < first_open (set (x ∷ p) (cond b 0 (suc (first_open p c))) (get_or (y ∷ c) (cond b 0 (suc (first_open p c))) none)) (y ∷ c)
     go true q h ih = rw (agreed y) (omega arith)
     go false q h ih = rw q (omega (arith, ih (omega arith)))
+
+pub for-some : {A : Type 0} (P : A → Type 0) (x : A) → P x → ForSome (Some x) P
+for-some P x p y e = let q : x ≡ y = cc in subst P q p
+
+pub first-found : (p c : Cube) (i : ℕ) → i ≡ first_open p c → i < length p → FirstOpen p c (Some i)
+first-found p c i e h = record { found = for-some _ i (e, h); none_left = λ z. absurd (none-some i (sym z)) }
+
+pub first-left : (p c : Cube) → length p ≤ first_open p c → FirstOpen p c None
+first-left p c h = record { found = λ i z. absurd (none-some i z); none_left = λ z. h }

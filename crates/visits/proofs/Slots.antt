@@ -1,13 +1,10 @@
 -- Walks that are remembered.
 --   code-or               the codes of `|`
 --   alike-below           pieces that meet the same cuts, and are alike where one of those fixes a value, are alike
---   like-words            a piece in words fits a slot
 --   remembers-right       a slot that is made of a walk in which nothing survives
 --   recalls-right         a slot is used
---   memory-set, memory-fresh   a slot is written; empty slots
---   met-turn              `&` of words, in place: one word more
+--   memory-fresh          empty slots
 --   common-turn, common-end    what cuts have in common: one cut more, and no cut left
---   Filled, filled-turn, slot-right    the words of a slot are filled in: so many, one more, all
 --   keeps-right           a slot is made, and kept
 --   look-turn             the words of a piece and of a slot are compared: one word more
 use Prim.Native.Nat.{ℕ, zero, suc, ◌+◌, ◌-◌, ◌/◌, ◌%◌, ◌^◌, ◌≤◌, ◌<◌}
@@ -18,8 +15,7 @@ use mathlib.Core.Bool.{Bool, true, false, ◌&&◌, false≢true}
 use mathlib.Core.Logic.{◌⊎◌, inl, inr, ⊎_elim}
 use mathlib.Core.List.{List, [], ◌∷◌}
 use lib.Dec.{lit<}
-use lib.ListN.{length, get_or, set, replicate, length-set}
-use lib.Seq.{get_or-set_same, get_or-set_other}
+use lib.ListN.{length, get_or, set, replicate}
 use lib.Count.{leading_length}
 use lib.Pow.{pow_pos, pow_mono}
 use lib.Bits.{bit_and, bit_or, bit_xor}
@@ -32,8 +28,13 @@ use Rattle.format.specs.Bytes.{code_of, is_free}
 use Rattle.visits.specs.Opening.{bit, is_fixed}
 use Rattle.visits.specs.Words.{place_at, number_in, code_in, cube_of_words, row_cube, cuts_below, either_code}
 use Rattle.visits.specs.Alive.{digit, Alive}
-use Rattle.visits.specs.Memory.{Finds, LikeSlot, Remembers, Memory, Recalls, Keeps, Lies, Common, Slot}
+use Rattle.visits.specs.Memory.{Finds, LikeSlot, LikeWords, Remembers, Memory, Recalls, Keeps, Lies, Common, SlotOf}
+use Rattle.visits.specs.declared.memory.Slot.{Slot}
+use Rattle.std.specs.Prelude.{Some, None}
+use Rattle.std.proofs.lemmas.List.Elements.{All-get_or, All-set, All-replicate}
+use Rattle.std.proofs.lemmas.Option.{none-some}
 use Rattle.visits.proofs.Digits.{same_or_not, below_or, or-none, xor-none, place-and, place-or, digit-below}
+use Rattle.visits.proofs.Openings.{for-some}
 use Rattle.visits.proofs.WordCubes.{words-length, words-at, row-length}
 use Rattle.visits.proofs.Meeting.{alive-passed, pow-double}
 use Rattle.cube.proofs.Codes.{below4, four-and}
@@ -132,88 +133,46 @@ length-of x h =
       },
     )
 
-module _ (cuts : List (List ℕ)) (slot ws : List ℕ) (alive count m : ℕ) (small : alive < 2 ^ 64)
-    (ea : get_or slot 20 0 ≡ alive) (ec : get_or slot 21 0 ≡ count)
-    (own : (i : ℕ) → i < 320 → code_in slot i ≡ either_code (code_in ws i) (code_in slot (320 + i)))
-    (low : (j : ℕ) → j < 64 → digit j alive ≡ 1 → (i : ℕ) → i < 320 → meet_code (code_in slot (320 + i)) (get_or (row_cube cuts j) i none) ≡ code_in slot (320 + i))
+module _ (cuts : List (List ℕ)) (slot : Slot) (ws : List ℕ) (alive count m : ℕ) (small : alive < 2 ^ 64) (ea : slot.alive ≡ alive) (ec : slot.count ≡ Some count)
+    (own : (i : ℕ) → i < 320 → code_in slot.cube i ≡ either_code (code_in ws i) (code_in slot.common i))
+    (low : (j : ℕ) → j < 64 → digit j alive ≡ 1 → (i : ℕ) → i < 320 → meet_code (code_in slot.common i) (get_or (row_cube cuts j) i none) ≡ code_in slot.common i)
     (met : Alive cuts m (cube_of_words ws) alive) (found : Finds count (visit (cuts_below cuts m) (cube_of_words ws))) where
-  pub remembers-right : Remembers cuts slot
-  unfolding Remembers
-  remembers-right pos n p lp a f =
+  like-finds : (n : ℕ) (p : Cube) → length p ≡ 320 → Alive cuts n p slot.alive → LikeSlot slot p → Finds count (visit (cuts_below cuts n) p)
+  like-finds n p lp a f =
       let l = length-of alive small in
       let t = l.0 in
       let b = rw ea at a in
       let tn = l.1.fewest n b.0 in
       let tm = l.1.fewest m met.0 in
       let ts = l.1.fewest 64 small in
-      let like = alike-below cuts p (cube_of_words ws) (λ i. code_in slot (320 + i)) lp (words-length ws) (λ i h. f i h ∙ own i h ∙ rw (words-at ws i h)) t
+      let like = alike-below cuts p (cube_of_words ws) (λ i. code_in slot.common i) lp (words-length ws) (λ i h. f i h ∙ own i h ∙ rw (words-at ws i h)) t
       (λ j h. bit-same (shares p (row_cube cuts j)) (shares (cube_of_words ws) (row_cube cuts j)) (sym (b.1 j (omega arith)) ∙ met.1 j (omega arith)))
       (λ j h e. low j (omega arith) (b.1 j (omega arith) ∙ bit-of (shares p (row_cube cuts j)) e)) in
-      rw (ec, alive-passed cuts n t p alive b l.1.under tn)
+      rw (alive-passed cuts n t p alive b l.1.under tn)
       (finds-alike (cuts_below cuts t) p (cube_of_words ws) count like (rw (alive-passed cuts m t (cube_of_words ws) alive met l.1.under tm) at found))
 
--- words
-second : (slot : List ℕ) (i : ℕ) → number_in slot (320 + i) ≡ place_at (get_or slot (10 + i / 32) 0) (i % 32)
-unfolding number_in
-second slot i =
-    let q : (320 + i) / 32 ≡ 10 + i / 32 = omega arith in
-    let r : (320 + i) % 32 ≡ i % 32 = omega arith in
-    rw (q, r)
+  pub remembers-right : Remembers cuts slot
+  unfolding Remembers
+  remembers-right = rw ec (for-some _ count like-finds)
 
+-- words
 either-words : (x y z k : ℕ) → bit_or x y ≡ z → either_code (code_of (place_at x k)) (code_of (place_at y k)) ≡ code_of (place_at z k)
 either-words x y z k e = rw (← e) (sym (ap code_of (place-or k x y) ∙ code-or (place_at x k) (place_at y k) (mod-lt _ (lit< tt)) (mod-lt _ (lit< tt))))
 
-pub like-words : (slot ws : List ℕ) → ((w : ℕ) → w < 10 → bit_or (get_or ws w 0) (get_or slot (10 + w) 0) ≡ get_or slot w 0)
-    → LikeSlot slot (cube_of_words ws)
+like-words : (slot : Slot) (ws : List ℕ) → LikeWords slot ws → LikeSlot slot (cube_of_words ws)
 unfolding number_in
 like-words slot ws h i l =
-    rw (words-at ws i l, second slot i)
-    (either-words (get_or ws (i / 32) 0) (get_or slot (10 + i / 32) 0) (get_or slot (i / 32) 0) (i % 32) (h (i / 32) (omega arith)))
+    rw (words-at ws i l) (either-words (get_or ws (i / 32) 0) (get_or slot.common (i / 32) 0) (get_or slot.cube (i / 32) 0) (i % 32) (h (i / 32) (omega arith)))
 
-pub recalls-right : (slots : List (List ℕ)) (ws : List ℕ) (alive e : ℕ) → e < length slots → get_or (get_or slots e []) 20 0 ≡ alive
-    → ((w : ℕ) → w < 10 → bit_or (get_or ws w 0) (get_or (get_or slots e []) (10 + w) 0) ≡ get_or (get_or slots e []) w 0) → Recalls slots ws alive (get_or (get_or slots e []) 21 0)
+pub recalls-right : (slots : List Slot) (ws : List ℕ) (e : ℕ) (slot : Slot) → e < length slots → get_or slots e slot ≡ slot → LikeWords slot ws → Recalls slots ws slot.alive slot.count
 unfolding Remembers
-recalls-right slots ws alive e h ea f pos cuts mem n a = mem e h pos n (cube_of_words ws) (words-length ws) (rw ea a) (like-words (get_or slots e []) ws f)
+recalls-right slots ws e slot h es f k ek cuts mem n a =
+    (rw es at (All-get_or (Remembers cuts) slots e slot h mem)) k ek n (cube_of_words ws) (words-length ws) a (like-words slot ws f)
 
--- slots
-pub memory-set : (cuts slots : List (List ℕ)) (e : ℕ) (slot : List ℕ) → Memory cuts slots → Remembers cuts slot → Memory cuts (set slots e slot)
-memory-set cuts slots e slot m r j h =
-    let k : j < length slots = omega (arith, length-set slots e slot) in
-    ⊎_elim (λ (q : j ≡ e). rw (q, get_or-set_same slots e slot [] (omega arith)) r) (λ (q : j ≡ e → ⊥). rw (get_or-set_other slots e j slot [] q) (m j k)) (same_or_not j e)
-
-empty-slots : (n e : ℕ) → get_or {A = ℕ} (get_or {A = List ℕ} (replicate n (replicate 22 0)) e []) 21 0 ≡ 0
-empty-slots zero e = refl
-empty-slots (suc n) zero = refl
-empty-slots (suc n) (suc e) = empty-slots n e
-
-pub memory-fresh : (cuts : List (List ℕ)) (n : ℕ) → Memory cuts (replicate n (replicate 22 0))
+-- empty slots
+pub memory-fresh : (cuts : List (List ℕ)) (n : ℕ) (slot : Slot) → slot.count ≡ None → Memory cuts (replicate n slot)
 unfolding Remembers
-memory-fresh cuts n e h pos = absurd (omega (arith, empty-slots n e))
-
--- `&` of words, in place
-pub met-turn : (a₀ b a : List ℕ) (w : ℕ) → ((v : ℕ) → v < w → get_or a v 0 ≡ bit_and (get_or a₀ v 0) (get_or b v 0)) → ((v : ℕ) → w ≤ v → get_or a v 0 ≡ get_or a₀ v 0)
-    → ((v : ℕ) → v < w + 1 → get_or (set a w (bit_and (get_or a w 0) (get_or b w 0))) v 0 ≡ bit_and (get_or a₀ v 0) (get_or b v 0))
-    × ((v : ℕ) → w + 1 ≤ v → get_or (set a w (bit_and (get_or a w 0) (get_or b w 0))) v 0 ≡ get_or a₀ v 0)
-met-turn a₀ b a w done left = (now, then)
-  where
-    x : ℕ
-    x = bit_and (get_or a w 0) (get_or b w 0)
-
-    beyond : (l : List ℕ) (n : ℕ) → length l ≤ n → get_or l n 0 ≡ 0
-    beyond [] n h = refl
-    beyond (y ∷ l) zero h = absurd (omega arith)
-    beyond (y ∷ l) (suc n) h = beyond l n (omega arith)
-
-    here : get_or (set a w x) w 0 ≡ bit_and (get_or a₀ w 0) (get_or b w 0)
-    here =
-        ⊎_elim (λ (h : w < length a). get_or-set_same a w x 0 h ∙ rw (left w (omega arith)))
-        (λ (h : length a ≤ w). beyond (set a w x) w (omega (arith, length-set a w x)) ∙ rw (← left w (omega arith), beyond a w h)) (below_or w (length a))
-
-    now : (v : ℕ) → v < w + 1 → get_or (set a w x) v 0 ≡ bit_and (get_or a₀ v 0) (get_or b v 0)
-    now v h = ⊎_elim (λ (q : v ≡ w). rw q here) (λ (q : v ≡ w → ⊥). get_or-set_other a w v x 0 q ∙ done v (omega arith)) (same_or_not v w)
-
-    then : (v : ℕ) → w + 1 ≤ v → get_or (set a w x) v 0 ≡ get_or a₀ v 0
-    then v h = get_or-set_other a w v x 0 (λ (q : v ≡ w). omega arith) ∙ left v (omega arith)
+memory-fresh cuts n slot e = All-replicate (Remembers cuts) n slot (λ k z. absurd (none-some k (sym e ∙ z)))
 
 -- words that lie in cuts
 within-again : (a y : Code) → meet_code (meet_code a y) y ≡ meet_code a y
@@ -321,58 +280,19 @@ pub common-end : (cuts : List (List ℕ)) (alive x : ℕ) (m : List ℕ) → x �
 common-end cuts alive x m z f j h d =
     ⊎_elim (λ (k : digit j x ≡ 1). absurd (omega (arith, (rw (z, div-eq_of_lt (pow_pos j)) at k)))) (λ l. l) (f j h d)
 
--- the words of a slot, one more
-pub record Filled (near m s : List ℕ) (w : ℕ) : Type 0 where
-  pub long : length s ≡ 22
-  pub own : (v : ℕ) → v < w → get_or s v 0 ≡ bit_or (get_or near v 0) (get_or m v 0)
-  pub shared : (v : ℕ) → v < w → get_or s (10 + v) 0 ≡ get_or m v 0
-
-pub filled-turn : (near m s : List ℕ) (w : ℕ) → w < 10 → Filled near m s w → Filled near m (set (set s w (bit_or (get_or near w 0) (get_or m w 0))) (10 + w) (get_or m w 0)) (w + 1)
-filled-turn near m s w h f = record { long = length-set t (10 + w) (get_or m w 0) ∙ length-set s w x ∙ f.long; own = own; shared = shared }
-  where
-    x : ℕ
-    x = bit_or (get_or near w 0) (get_or m w 0)
-
-    t : List ℕ
-    t = set s w x
-
-    own : (v : ℕ) → v < w + 1 → get_or (set t (10 + w) (get_or m w 0)) v 0 ≡ bit_or (get_or near v 0) (get_or m v 0)
-    own v k =
-        get_or-set_other t (10 + w) v (get_or m w 0) 0 (λ (q : v ≡ 10 + w). omega arith)
-        ∙ ⊎_elim (λ (q : v ≡ w). rw q (get_or-set_same s w x 0 (omega (arith, f.long)))) (λ (q : v ≡ w → ⊥). get_or-set_other s w v x 0 q ∙ f.own v (omega arith)) (same_or_not v w)
-
-    shared : (v : ℕ) → v < w + 1 → get_or (set t (10 + w) (get_or m w 0)) (10 + v) 0 ≡ get_or m v 0
-    shared v k =
-        ⊎_elim (λ (q : v ≡ w). rw q (get_or-set_same t (10 + w) (get_or m w 0) 0 (omega (arith, f.long, length-set s w x))))
-        (λ (q : v ≡ w → ⊥).
-        get_or-set_other t (10 + w) (10 + v) (get_or m w 0) 0 (λ (z : 10 + v ≡ 10 + w). q (omega arith))
-        ∙ get_or-set_other s w (10 + v) x 0 (λ (z : 10 + v ≡ w). omega arith) ∙ f.shared v (omega arith))
-        (same_or_not v w)
-
-pub slot-right : (near m s : List ℕ) (alive count : ℕ) → Filled near m s 10 → Slot near m alive count (set (set s 20 alive) 21 count)
-slot-right near m s alive count f = record {
-  own = λ w h. aside w (omega arith) ∙ f.own w h;
-  shared = λ w h. aside (10 + w) (omega arith) ∙ f.shared w h;
-  meets = get_or-set_other (set s 20 alive) 21 20 count 0 (λ (z : 20 ≡ 21). omega arith) ∙ get_or-set_same s 20 alive 0 (omega (arith, f.long));
-  pieces = get_or-set_same (set s 20 alive) 21 count 0 (omega (arith, f.long, length-set s 20 alive));
-}
-  where
-    aside : (v : ℕ) → v < 20 → get_or (set (set s 20 alive) 21 count) v 0 ≡ get_or s v 0
-    aside v h = get_or-set_other (set s 20 alive) 21 v count 0 (λ (z : v ≡ 21). omega arith) ∙ get_or-set_other s 20 v alive 0 (λ (z : v ≡ 20). omega arith)
-
 -- a slot is made
-pub keeps-right : (cuts slots : List (List ℕ)) (near m slot : List ℕ) (e alive count : ℕ) → alive < 2 ^ 64 → Common cuts alive m → Slot near m alive count slot
+pub keeps-right : (cuts : List (List ℕ)) (slots : List Slot) (near m : List ℕ) (slot : Slot) (e alive count : ℕ) → alive < 2 ^ 64 → Common cuts alive m → SlotOf near m alive count slot
     → Keeps cuts slots near alive count (set slots e slot)
 unfolding number_in
 keeps-right cuts slots near m slot e alive count small low s mem n met found =
-    memory-set cuts slots e slot mem
+    All-set (Remembers cuts) slots e slot
     (remembers-right cuts slot near alive count n small s.meets s.pieces
-    (λ i h. rw (second slot i, s.shared (i / 32) (omega arith)) (sym (either-words (get_or near (i / 32) 0) (get_or m (i / 32) 0) (get_or slot (i / 32) 0) (i % 32) (sym (s.own (i / 32) (omega arith))))))
-    (λ j h d i k. rw (second slot i, s.shared (i / 32) (omega arith)) (low j h d i k)) met found)
+    (λ i h. rw s.shared (sym (either-words (get_or near (i / 32) 0) (get_or m (i / 32) 0) (get_or slot.cube (i / 32) 0) (i % 32) (sym (s.own (i / 32) (omega arith))))))
+    (λ j h d i k. rw s.shared (low j h d i k)) met found) mem
 
 -- the words of a piece and of a slot are compared
-pub look-turn : (near slot : List ℕ) (w d : ℕ) → (d ≡ 0 → (v : ℕ) → v < w → bit_or (get_or near v 0) (get_or slot (10 + v) 0) ≡ get_or slot v 0)
-    → bit_or d (bit_xor (bit_or (get_or near w 0) (get_or slot (10 + w) 0)) (get_or slot w 0)) ≡ 0 → (v : ℕ) → v < w + 1 → bit_or (get_or near v 0) (get_or slot (10 + v) 0) ≡ get_or slot v 0
-look-turn near slot w d f z v h =
-    let o = or-none d (bit_xor (bit_or (get_or near w 0) (get_or slot (10 + w) 0)) (get_or slot w 0)) z in
-    ⊎_elim (λ (q : v ≡ w). rw q (xor-none (bit_or (get_or near w 0) (get_or slot (10 + w) 0)) (get_or slot w 0) o.1)) (λ (q : v ≡ w → ⊥). f o.0 v (omega arith)) (same_or_not v w)
+pub look-turn : (slot : Slot) (near : List ℕ) (w d : ℕ) → (d ≡ 0 → (v : ℕ) → v < w → bit_or (get_or near v 0) (get_or slot.common v 0) ≡ get_or slot.cube v 0)
+    → bit_or d (bit_xor (bit_or (get_or near w 0) (get_or slot.common w 0)) (get_or slot.cube w 0)) ≡ 0 → (v : ℕ) → v < w + 1 → bit_or (get_or near v 0) (get_or slot.common v 0) ≡ get_or slot.cube v 0
+look-turn slot near w d f z v h =
+    let o = or-none d (bit_xor (bit_or (get_or near w 0) (get_or slot.common w 0)) (get_or slot.cube w 0)) z in
+    ⊎_elim (λ (q : v ≡ w). rw q (xor-none (bit_or (get_or near w 0) (get_or slot.common w 0)) (get_or slot.cube w 0) o.1)) (λ (q : v ≡ w → ⊥). f o.0 v (omega arith)) (same_or_not v w)

@@ -1,18 +1,24 @@
 -- What is walked, and what is not.
---   possible-fits, fits-possible   a walk can be exactly where it fits
+--   possible-fits, fits-possible, unfit   a walk can be exactly where it fits
 --   walked-idle                    one that cannot be visits nothing
 --   walked-settles                 one that can be is settled
+--   row-fits, walked-row           the row of its cuts fits, and the visit with that row is the walk
 use Prim.Native.Nat.{ℕ, ◌+◌, ◌*◌, ◌^◌, ◌≤◌, ◌<◌}
 use native.Mathlib.Omega.{arith}
-use mathlib.Core.Path.{◌≡◌, sym}
+use mathlib.Core.Path.{◌≡◌, refl, sym, ◌∙◌}
 use mathlib.Core.List.{List}
-use mathlib.Core.Bool.{true, false, true≢false}
+use mathlib.Core.Bool.{Bool, true, false, true≢false}
 use lib.ListN.{length}
 use Rattle.model.specs.Walk.{visit}
 use Rattle.format.proofs.Reached.{reached, each}
 use Rattle.cube.specs.Whole.{cube_of, wholes_at}
+use Rattle.cube.specs.Row.{RowOf}
+use Rattle.cube.specs.declared.row.Row.{Row}
+use Rattle.cube.proofs.Rows.{slices-cubes}
+use Rattle.visits.specs.Cuts.{cubes_of}
 use Rattle.visits.specs.declared.allowance.Allowance.{Allowance}
-use Rattle.visits.specs.Settle.{settle}
+use Rattle.visits.specs.declared.allowance.Outcome.{Outcome}
+use Rattle.visits.specs.Settle.{says, settle}
 use Rattle.visits.specs.Walked.{possible_rows, possible, idle, walked}
 
 module _ (n q at left : ℕ) (a : Allowance) where
@@ -33,6 +39,13 @@ module _ (n q at left : ℕ) (a : Allowance) where
   unfolding possible
   fits-possible f = sym (reached 4 (possible_rows n q at left a) (omega arith))
 
+  pub unfit : (Fits → ⊥) → possible n q at left a ≡ false
+  unfit f = go (possible n q at left a) refl
+    where
+      go : (b : Bool) → possible n q at left a ≡ b → b ≡ false
+      go true e = absurd (f (possible-fits e))
+      go false e = refl
+
 module _ (q : ℕ) (piece s : List ℕ) (at left : ℕ) (a : Allowance) where
   pub walked-idle : possible (length s) q at left a ≡ false → idle a ≡ walked q piece s at left a
   unfolding walked
@@ -42,3 +55,12 @@ module _ (q : ℕ) (piece s : List ℕ) (at left : ℕ) (a : Allowance) where
       → walked q piece s at left a ≡ settle a (visit (wholes_at q s at left) (cube_of q piece))
   unfolding walked
   walked-settles f = rw (fits-possible (length s) q at left a f)
+
+  -- the row of those cuts
+  module _ (r : Row) (can : possible (length s) q at left a ≡ true) (k : RowOf s at q left r) where
+    pub row-fits : (r.size ≤ 80) × (r.count ≤ 65)
+    row-fits = let f = possible-fits (length s) q at left a can in (omega (arith, f.0, k.size), omega (arith, f.2, k.count))
+
+    pub walked-row : (b : Allowance) (o : Outcome (List ℕ)) → b ≡ a → says r.size o ≡ settle b (visit (cubes_of r) (cube_of r.size piece)) → says q o ≡ walked q piece s at left a
+    unfolding cubes_of
+    walked-row b o eb e = (rw (k.size, k.bytes, k.count, slices-cubes q s at left, eb) at e) ∙ sym (walked-settles (possible-fits (length s) q at left a can))

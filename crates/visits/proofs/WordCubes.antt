@@ -19,9 +19,10 @@ use lib.Pow.{pow_pos, pow_mono, pow-add}
 use Rattle.model.specs.Cube.{Code, none, Cube}
 use Rattle.model.specs.Walk.{opens}
 use Rattle.format.specs.Bytes.{code_of}
-use Rattle.visits.specs.Opening.{bit, first_open}
+use Rattle.visits.specs.Opening.{bit, first_open, FirstOpen}
+use Rattle.std.specs.Prelude.{Some, None}
 use Rattle.visits.specs.Words.{place_at, number_in, code_in, tabled, cube_of_words, row_cube, Openings, GivenWord}
-use Rattle.visits.proofs.Openings.{first-most, first-opens}
+use Rattle.visits.proofs.Openings.{first-opens, first-found, first-left}
 use Rattle.visits.proofs.Digits.{same_or_not, below_or}
 
 tabled-length : (n : ℕ) (f : ℕ → Code) (i : ℕ) → length (tabled n f i) ≡ n
@@ -159,14 +160,15 @@ module _ (ws cs : List ℕ) (w : ℕ) (l : w < 10) (c : 32 * w ≤ first_open (c
       rw (words-at ws (32 * w + k) (omega arith), words-at cs (32 * w + k) (omega arith), q, r)
 
   module _ (t : ℕ) (m : Openings (get_or ws w 0) (get_or cs w 0) t) where
-    pub open-here : (t ≡ 0 → ⊥) → t < 2 ^ 64 → 32 * w + count_leading_zeros 64 t / 2 ≡ first_open (cube_of_words ws) (cube_of_words cs)
-    open-here n f =
-        let k = count_leading_zeros 64 t / 2 in
-        let g = marks-first (get_or ws w 0) (get_or cs w 0) t m n f in
-        first-is (cube_of_words ws) (cube_of_words cs) (32 * w + k) even (omega (arith, words-length ws, g.0)) (in-word k g.0 ∙ g.1)
+    pub open-here : (k : ℕ) → k ≡ count_leading_zeros 64 t / 2 → (t ≡ 0 → ⊥) → t < 2 ^ 64 → FirstOpen (cube_of_words ws) (cube_of_words cs) (Some (32 * w + k))
+    open-here k ek n f =
+        let g = rw (← ek) at (marks-first (get_or ws w 0) (get_or cs w 0) t m n f) in
+        let inside : 32 * w + k < length (cube_of_words ws) = omega (arith, words-length ws, g.0) in
+        first-found (cube_of_words ws) (cube_of_words cs) (32 * w + k)
+        (first-is (cube_of_words ws) (cube_of_words cs) (32 * w + k) even inside (in-word k g.0 ∙ g.1)
         (λ j h. ⊎_elim (λ (b : j < 32 * w). before-first (cube_of_words ws) (cube_of_words cs) j even (omega arith))
         (λ (b : 32 * w ≤ j). let e : j ≡ 32 * w + (j - 32 * w) = omega arith in rw e (in-word (j - 32 * w) (omega (arith, g.0)) ∙ g.2 (j - 32 * w) (omega arith)))
-        (below_or j (32 * w)))
+        (below_or j (32 * w)))) inside
 
     pub open-passed : t ≡ 0 → 32 * (w + 1) ≤ first_open (cube_of_words ws) (cube_of_words cs)
     open-passed z =
@@ -178,6 +180,5 @@ module _ (ws cs : List ℕ) (w : ℕ) (l : w < 10) (c : 32 * w ≤ first_open (c
         absurd (true≢false (sym o ∙ (rw (← e) at (in-word (i - 32 * w) (omega arith))) ∙ marks-none (get_or ws w 0) (get_or cs w 0) t (i - 32 * w) m z (omega arith))))
         (λ b. b) (below_or (first_open (cube_of_words ws) (cube_of_words cs)) (32 * (w + 1)))
 
-pub open-ended : (ws cs : List ℕ) (w : ℕ) → 10 ≤ w → 32 * w ≤ first_open (cube_of_words ws) (cube_of_words cs)
-    → 320 ≡ first_open (cube_of_words ws) (cube_of_words cs)
-open-ended ws cs w h c = omega (arith, first-most (cube_of_words ws) (cube_of_words cs), words-length ws)
+pub open-ended : (ws cs : List ℕ) (w : ℕ) → 10 ≤ w → 32 * w ≤ first_open (cube_of_words ws) (cube_of_words cs) → FirstOpen (cube_of_words ws) (cube_of_words cs) None
+open-ended ws cs w h c = first-left (cube_of_words ws) (cube_of_words cs) (omega (arith, words-length ws))

@@ -4,8 +4,7 @@
 --   Alive cuts n p x       == of the n cuts left, x has the digits of those that the piece p meets
 --   AgainstAt cuts n i v x == of the n cuts left, x has among its digits those that fix position i to another value than v
 --   Against cuts n rows    == the table that has such words for position i at 2 i for the value 0, and after it for the value 1
---   First n b r            == r is whether there is a cut before the last 64 of n, and it is met, as b says
-use Rattle.std.specs.Prelude.{ℕ, suc, ◌+◌, ◌*◌, ◌/◌, ◌%◌, ◌^◌, ◌≤◌, ◌<◌, ◌≡◌, Bool, true, false, List, get_or}
+use Rattle.std.specs.Prelude.{ℕ, suc, ◌+◌, ◌*◌, ◌/◌, ◌%◌, ◌^◌, ◌<◌, ◌≡◌, Bool, true, false, List, get_or}
 use Rattle.model.specs.Cube.{Code, none, v0, v1, free, Cube, shares}
 use Rattle.format.specs.Bytes.{code_of}
 use Rattle.visits.specs.Opening.{bit}
@@ -34,6 +33,3 @@ AgainstAt cuts n i v x = (j : ℕ) → j < n → digit j x ≡ bit (clash v (get
 
 abbrev pub Against : List (List ℕ) → ℕ → List ℕ → Type 0
 Against cuts n rows = (i v : ℕ) → i < 320 → v < 2 → AgainstAt cuts n i (code_of (suc v)) (get_or rows (2 * i + v) 0)
-
-abbrev pub First : ℕ → Bool → Bool → Type 0
-First n b r = (n < 65 → r ≡ false) × (65 ≤ n → r ≡ b)

@@ -9,7 +9,7 @@
 --   left_from f c a p   == what is left to visit of a piece that a cut c meets, on the allowance a: p agrees with c where its pieces were visited
 --   decision_of v n i p == the decision of a verdict, with its count, the index of what decided, and its piece
 --   decision i d       == what a walk that began with nothing spent, and stopped at the index i, comes to
-use Rattle.std.specs.Prelude.{ℕ, ◌+◌, ◌-◌, [], cond, leb}
+use Rattle.std.specs.Prelude.{ℕ, ◌+◌, ◌-◌, List, [], cond, leb}
 use Rattle.model.specs.Cube.{Cube}
 use Rattle.model.specs.Walk.{Survivor, nothing, piece, Found, children, in_turn, Decision, undecided, empty, member}
 use Rattle.cube.specs.Whole.{cube_of}
@@ -32,7 +32,7 @@ kept Covered p = []
 kept Survives p = p
 kept Undecided p = []
 
-abbrev pub says : ℕ → Outcome → Said
+abbrev pub says : ℕ → Outcome (List ℕ) → Said
 says q r = record { allowance = r.allowance; verdict = r.verdict; piece = kept r.verdict (cube_of q r.piece) }
 
 abbrev pub said_of : Allowance → Survivor → Said

@@ -7,7 +7,7 @@ pub(crate) fn top(x: u64) -> usize
     requires { 0 < x }
     ensures { (result < 64) × (x < 2 ^ suc result) × (2 ^ result ≤ x) }
 {
-    63 - u64::leading_zeros(x) as usize
+    x.ilog2() as usize
 }
 
 // The digit of row n.
@@ -27,8 +27,8 @@ pub(crate) fn after_top(x: u64, n: usize) -> u64
 }
 
 // The digits of `alive` that the code v, a value, leaves at position i.
-pub(crate) fn narrow(alive: u64, against: &[u64], i: usize, v: u64) -> u64
-    requires { (i < 320) × (1 ≤ v) × (v ≤ 2) × (length against.now ≡ 640) }
+pub(crate) fn narrow(alive: u64, against: &[u64; 640], i: usize, v: u64) -> u64
+    requires { (i < 320) × (1 ≤ v) × (v ≤ 2) }
     ensures { result ≡ bit_xor alive (bit_and alive (get_or against.now (2 * i + (v - 1)) 0)) }
 {
     alive ^ (alive & against[2 * i + (v as usize - 1)])

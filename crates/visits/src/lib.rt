@@ -3,7 +3,6 @@
 
 mod alive;
 mod allowance;
-mod codes;
 mod fast;
 mod load;
 mod long;

@@ -1,58 +1,61 @@
 // Cubes of bytes brought into words, and back.
-ghost use Rattle.std.specs.Prelude.{◌≡◌, ℕ, ◌+◌, ◌-◌, ◌*◌, ◌≤◌, ◌<◌, length, get_or, drop};
+ghost use Rattle.std.specs.Prelude.{◌≡◌, ◌+◌, ◌-◌, ◌*◌, ◌≤◌, ◌<◌, length};
 ghost use Rattle.model.specs.Padding.{pad};
 ghost use Rattle.format.specs.Bytes.{codes};
-ghost use Rattle.cube.specs.Whole.{whole_at};
 ghost use Rattle.visits.specs.Words.{cube_of_words};
-ghost use Rattle.visits.specs.Loading.{padded, HoldsBytes, Loaded};
+ghost use Rattle.visits.specs.Loading.{cut_in, HoldsBytes, Loaded};
 
-// Byte b of the cube of q bytes that stands in s at an offset: free places behind its positions.
-fn byte(s: &[u8], at: usize, q: usize, b: usize) -> u64
-    requires { (q ≤ 80) × (b < 80) × (at + q ≤ length s.now) }
-    ensures { (result ≡ get_or (padded q (drop at s.now)) b 0) × (result < 256) }
+use cube::Row;
+
+// The cut of row m: the last cut is row 0.
+pub(crate) fn cut_of<'a>(cuts: Row<'a>, m: usize) -> &'a [u8]
+    requires { m < cuts.count }
+    ensures { result.now ≡ cut_in cuts.entry m }
 {
-    if b < q { s[at + b] as u64 } else { 255 }
+    let start = (cuts.count - 1 - m) * cuts.size;
+    &cuts.bytes[start..start + cuts.size]
 }
 
-// The word of eight such bytes from byte b on.
-fn word(s: &[u8], at: usize, q: usize, b: usize) -> u64
-    requires { (q ≤ 80) × (b ≤ 72) × (at + q ≤ length s.now) }
-    ensures { HoldsBytes (padded q (drop at s.now)) 8 b result }
+// The word of eight bytes from byte b on.
+fn word(bytes: &[u8; 80], b: usize) -> u64
+    requires { b ≤ 72 }
+    ensures { HoldsBytes bytes.now 8 b result }
 {
-    let mut x = 0;
-    let mut j = 0;
-    while j < 8 {
-        x = x * 256 + byte(s, at, q, b + j);
-        j += 1;
-    }
-    x
+    let mut eight = [0u8; 8];
+    eight.copy_from_slice(&bytes[b..b + 8]);
+    u64::from_be_bytes(eight)
 }
 
-// The cube of q bytes that stands in s at an offset, in words.
-pub(crate) fn load(s: &[u8], at: usize, q: usize) -> [u64; 10]
-    requires { (q ≤ 80) × (at + q ≤ length s.now) }
-    ensures { cube_of_words result ≡ pad (320 - 4 * q) (whole_at q s.now at) }
+// The cube with free places behind its positions.
+fn padded(cube: &[u8]) -> [u8; 80]
+    requires { length cube.now ≤ 80 }
+    ensures { codes result ≡ pad (320 - 4 * length cube.now) (codes cube.now) }
 {
-    let mut ws = [18446744073709551615u64; 10];
-    let mut w = 0;
-    while 8 * w < q {
-        ws[w] = word(s, at, q, 8 * w);
-        w += 1;
+    let mut bytes = [255u8; 80];
+    bytes[..cube.len()].copy_from_slice(cube);
+    bytes
+}
+
+// The cube in words: free places behind its positions.
+pub(crate) fn load(cube: &[u8]) -> [u64; 10]
+    requires { length cube.now ≤ 80 }
+    ensures { cube_of_words result ≡ pad (320 - 4 * length cube.now) (codes cube.now) }
+{
+    let bytes = padded(cube);
+    let mut ws = [0u64; 10];
+    for w in 0..10 {
+        ws[w] = word(&bytes, 8 * w);
     }
     ws
 }
 
-// The n cuts of q bytes that stand in s from an offset on, in rows of words, the last cut first.
-pub(crate) fn load_cuts(cuts: &mut [[u64; 10]], s: &[u8], at: usize, n: usize, q: usize)
-    requires { (q ≤ 80) × (at + n * q ≤ length s.now) × (n ≤ length cuts.old) }
-    ensures { Loaded q s.now at n cuts.new n }
+// The cuts in rows of words.
+pub(crate) fn load_cuts(table: &mut [[u64; 10]], cuts: Row)
+    requires { (cuts.size ≤ 80) × (cuts.count ≤ length table.old) }
+    ensures { Loaded cuts.entry table.new cuts.entry.count }
 {
-    let mut m = 0;
-    let mut here = at + n * q;
-    while m < n {
-        here -= q;
-        cuts[m] = load(s, here, q);
-        m += 1;
+    for m in 0..cuts.count {
+        table[m] = load(cut_of(cuts, m));
     }
 }
 
@@ -61,10 +64,8 @@ pub(crate) fn unload(ws: &[u64; 10]) -> [u8; 80]
     ensures { codes result ≡ cube_of_words ws.now }
 {
     let mut bytes = [0u8; 80];
-    let mut b = 0;
-    while b < 80 {
-        bytes[b] = ((ws[b / 8] >> (56 - 8 * (b % 8))) & 255) as u8;
-        b += 1;
+    for (w, word) in ws.iter().enumerate() {
+        bytes[8 * w..8 * w + 8].copy_from_slice(&word.to_be_bytes());
     }
     bytes
 }

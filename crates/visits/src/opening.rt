@@ -2,7 +2,7 @@
 ghost use Rattle.std.specs.Prelude.{◌≡◌, ◌*◌, ◌/◌, ◌≤◌, length};
 ghost use Rattle.std.specs.Int.Count.{count_leading_zeros};
 ghost use Rattle.format.specs.Bytes.{is_free, codes};
-ghost use Rattle.visits.specs.Opening.{is_fixed, marks, openings, first_open};
+ghost use Rattle.visits.specs.Opening.{is_fixed, marks, openings, first_open, FirstOpen};
 
 // A digit 1 of base 4 for each place of a byte that holds code 3.
 fn free_marks(x: u8) -> u8
@@ -32,18 +32,16 @@ fn first_place(m: u8) -> usize
     (u8::leading_zeros(m) / 2) as usize
 }
 
-// The first position that the cut opens, and as many as there are where it opens none; the bytes before `from` have none.
-pub(crate) fn next_open(near: &[u8], cut: &[u8], from: usize) -> usize
+// The first position that the cut opens; the bytes before `from` have none.
+pub(crate) fn next_open(near: &[u8], cut: &[u8], from: usize) -> Option<usize>
     requires { (length near.now ≡ length cut.now) × (length near.now ≤ 80) × (4 * from ≤ first_open (codes near.now) (codes cut.now)) }
-    ensures { result ≡ first_open (codes near.now) (codes cut.now) }
+    ensures { FirstOpen (codes near.now) (codes cut.now) result }
 {
-    let mut b = from;
-    while b < near.len() {
+    for b in from..near.len() {
         let m = open_marks(near[b], cut[b]);
         if m != 0 {
-            return 4 * b + first_place(m);
+            return Some(4 * b + first_place(m));
         }
-        b += 1;
     }
-    4 * b
+    None
 }

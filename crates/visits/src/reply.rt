@@ -1,38 +1,33 @@
 // What a visit over words gives back.
-ghost use Rattle.std.specs.Prelude.{◌≡◌, ◌+◌, ◌^◌, ◌<◌};
+ghost use Rattle.std.specs.Prelude.{◌≡◌};
 ghost use Rattle.visits.specs.Settle.{settle};
 ghost use Rattle.visits.specs.Words.{cube_of_words};
-ghost use Rattle.visits.specs.Replies.{tells, survives, Pays};
+ghost use Rattle.visits.specs.Replies.{tells, survives, Pays, InBytes};
 
-use super::allowance::{Allowance, Verdict};
+use super::allowance::{Allowance, Outcome, Purse, Verdict};
+use super::load::unload;
 
-// The piece is the one that survives, where one does.
-#[derive(Clone, Copy)]
-pub(crate) struct Reply {
-    pub(crate) allowance: Allowance,
-    pub(crate) verdict: Verdict,
-    pub(crate) piece: [u64; 10],
-}
+pub(crate) type Reply = Outcome<[u64; 10]>;
 
 // A walk of k pieces in which nothing survives is paid for, as far as the allowance goes.
-pub(crate) fn pay(have: Allowance, k: u64, piece: [u64; 10]) -> Reply
-    requires { have.left + have.spent < 2 ^ 32 }
-    ensures { Pays k have result }
+pub(crate) fn pay(have: Purse, k: u32, piece: [u64; 10]) -> Reply
+    ensures { Pays k have.allowance result }
 {
-    if (have.left as u64) < k {
-        return Reply {
+    let Allowance { left, spent } = have.allowance;
+    if left < k {
+        return Outcome {
             allowance: Allowance {
                 left: 0,
-                spent: have.spent + have.left,
+                spent: spent + left,
             },
             verdict: Verdict::Undecided,
             piece,
         };
     }
-    Reply {
+    Outcome {
         allowance: Allowance {
-            left: have.left - k as u32,
-            spent: have.spent + k as u32,
+            left: left - k,
+            spent: spent + k,
         },
         verdict: Verdict::Covered,
         piece,
@@ -40,20 +35,30 @@ pub(crate) fn pay(have: Allowance, k: u64, piece: [u64; 10]) -> Reply
 }
 
 // A visit of a piece that no cut meets.
-pub(crate) fn last(have: Allowance, piece: [u64; 10]) -> Reply
-    requires { have.left + have.spent < 2 ^ 32 }
-    ensures { tells result ≡ settle have (survives (cube_of_words piece)) }
+pub(crate) fn last(have: Purse, piece: [u64; 10]) -> Reply
+    ensures { tells result ≡ settle have.allowance (survives (cube_of_words piece)) }
 {
-    if have.left == 0 {
-        return Reply {
-            allowance: have,
+    if have.allowance.left == 0 {
+        return Outcome {
+            allowance: have.allowance,
             verdict: Verdict::Undecided,
             piece,
         };
     }
-    Reply {
-        allowance: have.spend(),
+    Outcome {
+        allowance: have.spend().allowance,
         verdict: Verdict::Survives,
         piece,
+    }
+}
+
+// A reply with its piece in bytes.
+pub(crate) fn in_bytes(r: Reply) -> Outcome<[u8; 80]>
+    ensures { InBytes r result }
+{
+    Outcome {
+        allowance: r.allowance,
+        verdict: r.verdict,
+        piece: unload(&r.piece),
     }
 }

@@ -1,106 +1,89 @@
 // A visit: the piece, the cuts left, and the pieces that follow from them.
-ghost use Rattle.std.specs.Prelude.{◌≡◌, ◌+◌, ◌*◌, ◌^◌, ◌≤◌, ◌<◌, length};
-ghost use Rattle.model.specs.Cube.{shares};
+ghost use Rattle.std.specs.Prelude.{◌≡◌, ◌-◌, ◌≤◌};
 ghost use Rattle.model.specs.Walk.{visit};
 ghost use Rattle.format.specs.Bytes.{codes};
-ghost use Rattle.cube.specs.Whole.{cube_of, whole_at, wholes_at};
-ghost use Rattle.visits.specs.Cuts.{Skipped};
-ghost use Rattle.visits.specs.Opening.{first_open};
+ghost use Rattle.cube.specs.Whole.{cube_of};
+ghost use Rattle.visits.specs.Cuts.{cubes_of, SplitFirst, FirstMet};
 ghost use Rattle.visits.specs.Settle.{settle, says};
 
-use super::allowance::{Allowance, Outcome, Verdict};
-use super::codes::{give, other};
+use super::allowance::{Outcome, Purse, Verdict};
 use super::opening::next_open;
-use cube::{code_at, meets};
+use cube::{Row, code_at, meets, set_code};
 
-// Where the next cut that meets a piece stands, and how many are left from there on.
-#[derive(Clone, Copy)]
-struct Next {
-    at: usize,
-    left: usize,
+// The first cut, and the cuts after it.
+fn split_first<'a>(cuts: Row<'a>) -> Option<(&'a [u8], Row<'a>)>
+    ensures { SplitFirst cuts.entry result }
+{
+    let count = cuts.count.checked_sub(1)?;
+    let (first, bytes) = cuts.bytes.split_at(cuts.size);
+    Some((
+        first,
+        Row {
+            bytes,
+            size: cuts.size,
+            count,
+        },
+    ))
 }
 
-// Whether the piece and the cut of as many bytes that stands in s share a header.
-fn met(piece: &[u8], s: &[u8], cut: usize) -> bool
-    requires { cut + length piece.now ≤ length s.now }
-    ensures { result ≡ shares (codes piece.now) (whole_at (length piece.now) s.now cut) }
+// The first cut that shares a header with the piece, and the cuts after it.
+fn first_met<'a>(piece: &[u8], cuts: Row<'a>) -> Option<(&'a [u8], Row<'a>)>
+    ensures { FirstMet cuts.entry (codes piece.now) result }
 {
-    let end = cut + piece.len();
-    meets(piece, &s[cut..end])
-}
-
-// The first position of the piece that such a cut opens; the bytes before `from` have none.
-fn opened(near: &[u8], s: &[u8], cut: usize, from: usize) -> usize
-    requires { (length near.now ≤ 80) × (cut + length near.now ≤ length s.now) × (4 * from ≤ first_open (codes near.now) (whole_at (length near.now) s.now cut)) }
-    ensures { result ≡ first_open (codes near.now) (whole_at (length near.now) s.now cut) }
-{
-    let end = cut + near.len();
-    next_open(near, &s[cut..end], from)
-}
-
-// Passes over the cuts that share no header with the piece.
-fn skip(piece: &[u8], s: &[u8], at: usize, left: usize) -> Next
-    requires { at + left * length piece.now ≤ length s.now }
-    ensures { Skipped (length piece.now) s.now (codes piece.now) at left result.at result.left }
-{
-    let mut here = at;
-    let mut n = left;
-    while 0 < n {
-        if met(piece, s, here) {
-            return Next { at: here, left: n };
+    let mut rest = cuts;
+    while let Some((cut, after)) = split_first(rest) {
+        rest = after;
+        if meets(piece, cut) {
+            return Some((cut, rest));
         }
-        here += piece.len();
-        n -= 1;
     }
-    Next { at: here, left: n }
+    None
 }
 
-// Visits the piece with the `left` cuts of q bytes that stand in s from `at` on.
-pub(crate) fn visit(
-    q: usize,
-    piece: [u8; 80],
-    s: &[u8],
-    at: usize,
-    left: usize,
-    a: Allowance,
-) -> Outcome
-    requires { (q ≤ 80) × (at + left * q ≤ length s.now) × (a.left + a.spent < 2 ^ 32) }
-    ensures { says q result ≡ settle a (visit (wholes_at q s.now at left) (cube_of q piece)) }
+// The code of the other value.
+fn other(y: u8) -> u8
+    requires { y ≤ 3 }
+    ensures { result ≡ 3 - y }
 {
-    if a.left == 0 {
+    3 - y
+}
+
+// Visits the piece, with the cuts left.
+pub(crate) fn visit(piece: [u8; 80], cuts: Row, a: Purse) -> Outcome<[u8; 80]>
+    requires { cuts.size ≤ 80 }
+    ensures { says cuts.entry.size result ≡ settle a.allowance (visit (cubes_of cuts.entry) (cube_of cuts.entry.size piece)) }
+{
+    if a.allowance.left == 0 {
         return Outcome {
-            allowance: a,
+            allowance: a.allowance,
             verdict: Verdict::Undecided,
             piece,
         };
     }
     let mut have = a.spend();
-    let next = skip(&piece[0..q], s, at, left);
-    if next.left == 0 {
+    let q = cuts.size;
+    let Some((cut, rest)) = first_met(&piece[..q], cuts) else {
         return Outcome {
-            allowance: have,
+            allowance: have.allowance,
             verdict: Verdict::Survives,
             piece,
         };
-    }
-    let cut = next.at;
-    let rest = cut + q;
-    let fewer = next.left - 1;
+    };
     let mut near = piece;
-    let mut i = opened(&near[0..q], s, cut, 0);
-    while i < 4 * q {
-        let y = code_at(s, cut, i);
-        let v = visit(q, give(near, i, other(y)), s, rest, fewer, have);
-        let k = v.verdict;
-        let Verdict::Covered = k else {
-            return v;
+    let mut next = next_open(&near[..q], cut, 0);
+    while let Some(i) = next {
+        let y = code_at(cut, 0, i);
+        set_code(&mut near, i, other(y));
+        let reply = visit(near, rest, have);
+        let Verdict::Covered = reply.verdict else {
+            return reply;
         };
-        have = v.allowance;
-        near = give(near, i, y);
-        i = opened(&near[0..q], s, cut, i / 4);
+        have = Purse::of(reply.allowance);
+        set_code(&mut near, i, y);
+        next = next_open(&near[..q], cut, i / 4);
     }
     Outcome {
-        allowance: have,
+        allowance: have.allowance,
         verdict: Verdict::Covered,
         piece: near,
     }

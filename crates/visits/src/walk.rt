@@ -1,87 +1,86 @@
 // The walk: plainly as long as it is short, and from the start over words where it is long.
-ghost use Rattle.std.specs.Prelude.{◌≡◌, ◌+◌, ◌-◌, ◌*◌, ◌^◌, ◌≤◌, ◌<◌, length};
+ghost use Rattle.std.specs.Prelude.{◌≡◌, ◌-◌, ◌≤◌};
 ghost use Rattle.model.specs.Walk.{visit};
-ghost use Rattle.cube.specs.Whole.{cube_of, wholes_at};
+ghost use Rattle.cube.specs.Whole.{cube_of};
+ghost use Rattle.visits.specs.Cuts.{cubes_of};
 ghost use Rattle.visits.specs.Settle.{settle, says};
-ghost use Rattle.visits.specs.Walked.{possible, walked, Resumed};
+ghost use Rattle.visits.specs.Walked.{walked, PossibleWalk, Resumed};
 
-use super::allowance::{Allowance, Outcome, Verdict};
+use super::allowance::{Allowance, Outcome, Purse, Verdict};
 use super::long::long_walk;
-use super::visit;
+use super::visit::visit;
+use cube::Row;
 
 // How many pieces are visited plainly: as many as the words cost to set up.
 const FEW: u32 = 100;
 
 // What a visit on a smaller allowance says on the allowance a.
-fn resumed(a: Allowance, r: Outcome) -> Outcome
+fn resumed(a: Allowance, mut r: Outcome<[u8; 80]>) -> Outcome<[u8; 80]>
     requires { (a.spent ≤ r.allowance.spent) × (r.allowance.spent - a.spent ≤ a.left) }
     ensures { Resumed a r result }
 {
-    let had = r.allowance;
-    let verdict = r.verdict;
-    let piece = r.piece;
-    Outcome {
-        allowance: Allowance {
-            left: a.left - (had.spent - a.spent),
-            spent: had.spent,
-        },
-        verdict,
-        piece,
-    }
+    let spent = r.allowance.spent;
+    let left = a.left - (spent - a.spent);
+    r.allowance = Allowance { left, spent };
+    r
 }
 
 // As `visit`, and fast where the walk is long.
-fn walk_within(q: usize, piece: [u8; 80], s: &[u8], at: usize, left: usize, a: Allowance) -> Outcome
-    requires { (q ≤ 80) × (at + left * q ≤ length s.now) × (left ≤ 65) × (a.left + a.spent < 2 ^ 32) }
-    ensures { says q result ≡ settle a (visit (wholes_at q s.now at left) (cube_of q piece)) }
+fn walk_within(piece: [u8; 80], cuts: Row, a: Purse) -> Outcome<[u8; 80]>
+    requires { (cuts.size ≤ 80) × (cuts.count ≤ 65) }
+    ensures { says cuts.entry.size result ≡ settle a.allowance (visit (cubes_of cuts.entry) (cube_of cuts.entry.size piece)) }
 {
-    if a.left <= FEW {
-        return visit::visit(q, piece, s, at, left, a);
+    if a.allowance.left <= FEW {
+        return visit(piece, cuts, a);
     }
     let few = Allowance {
         left: FEW,
-        spent: a.spent,
+        spent: a.allowance.spent,
     };
-    let r = visit::visit(q, piece, s, at, left, few);
-    let k = r.verdict;
-    let Verdict::Undecided = k else {
-        return resumed(a, r);
+    let r = visit(piece, cuts, Purse::of(few));
+    let Verdict::Undecided = r.verdict else {
+        return resumed(a.allowance, r);
     };
-    long_walk(q, piece, s, at, left, a)
+    long_walk(piece, cuts, a)
 }
 
-// Whether the walk can be: its cubes are no wider than those of a header, its cuts no more than inclusion has, they stand in n bytes, and its allowance is one.
-fn possible(n: usize, q: usize, at: usize, left: usize, a: Allowance) -> bool
-    ensures { result ≡ possible n q at left a }
+// The cuts and the allowance of a walk, where it can be: its cubes are no wider than those of a header, its cuts no more than inclusion has, they stand in the bytes, and its allowance is one.
+fn possible<'a>(
+    s: &'a [u8],
+    q: usize,
+    at: usize,
+    left: usize,
+    a: Allowance,
+) -> Option<(Row<'a>, Purse)>
+    ensures { PossibleWalk s.entry q at left a result }
 {
     if 80 < q {
-        return false;
+        return None;
     }
     if 65 < left {
-        return false;
+        return None;
     }
-    if n < at {
-        return false;
-    }
-    if n - at < left * q {
-        return false;
-    }
-    if 4294967295 - a.left < a.spent {
-        return false;
-    }
-    true
+    a.left.checked_add(a.spent)?;
+    Some((Row::new(s, at, q, left)?, Purse::of(a)))
 }
 
 // Walks the piece in the first q bytes of `piece` with the `left` cuts of q bytes that stand in s from `at` on. Where that cannot be, nothing is visited.
-pub fn walk(q: usize, piece: [u8; 80], s: &[u8], at: usize, left: usize, a: Allowance) -> Outcome
+pub fn walk(
+    q: usize,
+    piece: [u8; 80],
+    s: &[u8],
+    at: usize,
+    left: usize,
+    a: Allowance,
+) -> Outcome<[u8; 80]>
     ensures { says q result ≡ walked q piece s.now at left a }
 {
-    if !possible(s.len(), q, at, left, a) {
+    let Some((cuts, purse)) = possible(s, q, at, left, a) else {
         return Outcome {
             allowance: a,
             verdict: Verdict::Undecided,
             piece,
         };
-    }
-    walk_within(q, piece, s, at, left, a)
+    };
+    walk_within(piece, cuts, purse)
 }

@@ -1,7 +1,7 @@
 // Cubes of 320 positions in ten words, 32 places to a word.
-ghost use Rattle.std.specs.Prelude.{◌≡◌, ◌+◌, ◌-◌, ◌*◌, ◌/◌, ◌^◌, ◌≤◌, ◌<◌, length, get_or};
+ghost use Rattle.std.specs.Prelude.{◌≡◌, ◌+◌, ◌-◌, ◌*◌, ◌/◌, ◌^◌, ◌≤◌, ◌<◌, length, get_or, IfSome};
 ghost use Rattle.std.specs.Int.Count.{count_leading_zeros};
-ghost use Rattle.visits.specs.Opening.{first_open};
+ghost use Rattle.visits.specs.Opening.{first_open, FirstOpen};
 ghost use Rattle.visits.specs.Words.{place_at, number_in, cube_of_words, Openings, GivenWord};
 
 // A digit 1 of base 4 for each place where a cut's word y opens a piece's word x.
@@ -18,20 +18,19 @@ fn first_place(t: u64) -> usize
     (u64::leading_zeros(t) / 2) as usize
 }
 
-// The first position that the cut opens, and 320 where it opens none; the words before `from` have none.
-pub(crate) fn next_open(near: &[u64; 10], cut: &[u64; 10], from: usize) -> usize
+// The first position that the cut opens; the words before `from` have none.
+pub(crate) fn next_open(near: &[u64; 10], cut: &[u64; 10], from: usize) -> Option<usize>
     requires { (from ≤ 10) × (32 * from ≤ first_open (cube_of_words near.now) (cube_of_words cut.now)) }
-    ensures { result ≡ first_open (cube_of_words near.now) (cube_of_words cut.now) }
+    ensures first { FirstOpen (cube_of_words near.now) (cube_of_words cut.now) result }
+    ensures inside { IfSome result (λ i. i < 320) }
 {
-    let mut w = from;
-    while w < 10 {
+    for w in from..10 {
         let t = open_marks(near[w], cut[w]);
         if t != 0 {
-            return 32 * w + first_place(t);
+            return Some(32 * w + first_place(t));
         }
-        w += 1;
     }
-    320
+    None
 }
 
 // The number of the code at position i.

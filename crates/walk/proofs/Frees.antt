@@ -1,37 +1,30 @@
 -- The positions that a cube leaves free and another does not.
---   count-append, count_most   the free positions of two cubes in a row; no more than there are positions
+--   count_most                 no more positions are free than there are
 --   lost-count                 they are free in the one and not in the meet
---   count_turn, met-turn       one byte more of the one, and of the meet
---   lost-fewer, lost-left      what is left when all bytes are counted
+--   Opened base cut xs ys n    == of the bytes of two cubes, those before the bytes xs and ys have n such positions
+--   opened-begun, opened-fits, opened-turn, opened-all    no byte is counted; one more is; all are
 --   frees-lost                 of a cut that meets the base, they are those that it fixes
 --   lost-mark                  with one cut more that meets the base, those that it fixes are marked too
 --   lost-none                  with no cut there are none
-use Prim.Native.Nat.{ℕ, zero, suc, ◌+◌, ◌-◌, ◌≤◌, ◌<◌}
+use Prim.Native.Nat.{ℕ, zero, suc, ◌+◌, ◌-◌, ◌*◌, ◌≤◌}
 use native.Mathlib.Omega.{arith}
-use native.Mathlib.Numerals.{add-one}
+use native.Mathlib.Nat.{zero-add}
 use mathlib.Core.Path.{◌≡◌, refl, sym, ap, ap₂, ◌∙◌}
 use mathlib.Core.List.{List, [], ◌∷◌, ◌++◌}
+use mathlib.Core.Logic.{◌⊎◌, inl, inr}
 use mathlib.Core.Bool.{Bool, true, false, not, ◌&&◌, ◌||◌, cond, or-true, and-false}
 use lib.Bits.{bit_and}
-use lib.ListN.{length, get_or, drop, replicate, drop_of_length-le}
-use lib.Seq.{drop-cons}
+use lib.ListN.{length, replicate}
 use Rattle.model.specs.Cube.{Code, none, v0, v1, free, Cube, meet_code, meet, coded, shares}
 use Rattle.model.specs.Walk.{opens}
 use Rattle.model.specs.Ceiling.{frees, mark, unmarked, marks}
 use Rattle.model.proofs.Bools.{and_left, and_right}
+use Rattle.format.specs.Limits.{widest, widest_cube}
 use Rattle.format.specs.Bytes.{codes, is_free}
-use Rattle.format.proofs.Coding.{length-codes}
 use Rattle.cube.specs.Count.{free_count}
 use Rattle.cube.specs.Whole.{cube_of}
 use Rattle.cube.proofs.Codes.{codes-and}
 use Rattle.walk.specs.Tally.{lost}
-
-pub count-append : (a b : Cube) → free_count (a ++ b) ≡ free_count a + free_count b
-count-append [] b = omega arith
-count-append (none ∷ a) b = count-append a b
-count-append (v0 ∷ a) b = count-append a b
-count-append (v1 ∷ a) b = count-append a b
-count-append (free ∷ a) b = let e = count-append a b in omega arith
 
 pub count_most : (a : Cube) → free_count a ≤ length a
 count_most [] = omega arith
@@ -83,38 +76,57 @@ lost-count (x ∷ b) (y ∷ u) e =
     let t = lost-count b u (omega arith) in
     rw (marks-first (is_free x && not (is_free y)) (lost b u), count-cons (meet_code x y) (meet b u), count-cons x b) (omega arith)
 
+marks-append : (a b : List Bool) → marks (a ++ b) ≡ marks a + marks b
+unfolding marks
+marks-append [] b = omega arith
+marks-append (m ∷ a) b = let e = marks-append a b in rw (marks-first m (a ++ b), marks-first m a) (omega arith)
+
 -- byte by byte
-module _ (a : List ℕ) (i n x t : ℕ) (h : i < length a) where
-  pub count_turn : x ≡ free_count (codes (get_or a i 0 ∷ [])) → n + free_count (codes (drop i a)) ≡ t → n + x + free_count (codes (drop (i + 1) a)) ≡ t
-  count_turn e k =
-      let c = count-append (codes (get_or a i 0 ∷ [])) (codes (drop (suc i) a)) in
-      let j = ap (λ (l : List ℕ). n + free_count (codes l)) (sym (drop-cons a i 0 h)) ∙ k in
-      rw (add-one i) (omega arith)
+lost-byte : (x y : ℕ) → marks (lost (codes (x ∷ [])) (codes (y ∷ []))) + free_count (codes (bit_and x y ∷ [])) ≡ free_count (codes (x ∷ []))
+lost-byte x y = rw (codes-and (x ∷ []) (y ∷ []) refl) (lost-count (codes (x ∷ [])) (codes (y ∷ [])) refl)
 
-  pub met-turn : (b : List ℕ) → i < length b → x ≡ free_count (codes (bit_and (get_or a i 0) (get_or b i 0) ∷ []))
-      → n + free_count (meet (codes (drop i a)) (codes (drop i b))) ≡ t → n + x + free_count (meet (codes (drop (i + 1) a)) (codes (drop (i + 1) b))) ≡ t
-  met-turn b g e k =
-      let m = codes-and (get_or a i 0 ∷ []) (get_or b i 0 ∷ []) refl in
-      let c = count-append (meet (codes (get_or a i 0 ∷ [])) (codes (get_or b i 0 ∷ []))) (meet (codes (drop (suc i) a)) (codes (drop (suc i) b))) in
-      let j = ap₂ (λ (l r : List ℕ). n + free_count (meet (codes l) (codes r))) (sym (drop-cons a i 0 h)) (sym (drop-cons b i 0 g)) ∙ k in
-      let z : x ≡ free_count (meet (codes (get_or a i 0 ∷ [])) (codes (get_or b i 0 ∷ []))) = e ∙ ap free_count m in
-      rw (add-one i) (omega arith)
+lost-next : (x y : ℕ) (a b : List ℕ)
+    → marks (lost (codes (x ∷ a)) (codes (y ∷ b))) ≡ marks (lost (codes (x ∷ [])) (codes (y ∷ []))) + marks (lost (codes a) (codes b))
+unfolding lost
+lost-next x y a b = marks-append (lost (codes (x ∷ [])) (codes (y ∷ []))) (lost (codes a) (codes b))
 
--- at the end
-module _ (a b : List ℕ) (i n m : ℕ) (l : length a ≡ length b) (h : length a ≤ i) (p : n + free_count (codes (drop i a)) ≡ free_count (codes a))
-    (q : m + free_count (meet (codes (drop i a)) (codes (drop i b))) ≡ free_count (meet (codes a) (codes b))) where
-  counted : n ≡ marks (lost (codes a) (codes b)) + m
-  counted =
-      let p' : n + 0 ≡ free_count (codes a) = rw (drop_of_length-le a h) at p in
-      let k : length b ≤ i = omega arith in
-      let q' : m + 0 ≡ free_count (meet (codes a) (codes b)) = rw (drop_of_length-le a h, drop_of_length-le b k) at q in
-      omega (arith, lost-count (codes a) (codes b) (omega (arith, length-codes a, length-codes b)))
+-- n positions are counted, and the bytes xs and ys are left to count
+pub record Opened (base cut xs ys : List ℕ) (n : ℕ) : Type 0 where
+  pub long : length xs ≡ length ys
+  pub most : n + 4 * length xs ≤ widest
+  pub sum : n + marks (lost (codes xs) (codes ys)) ≡ marks (lost (codes base) (codes cut))
 
-  pub lost-fewer : m ≤ n
-  lost-fewer = omega (arith, counted)
+pub opened-begun : (base cut : List ℕ) → length base ≡ length cut → length base ≤ widest_cube → Opened base cut base cut 0
+opened-begun base cut l h = record { long = l; most = omega arith; sum = zero-add (marks (lost (codes base) (codes cut))) }
 
-  pub lost-left : n - m ≡ marks (lost (codes a) (codes b))
-  lost-left = omega (arith, counted)
+module _ {base cut xs ys : List ℕ} {n : ℕ} (h : Opened base cut xs ys n) where
+  -- f and g places of the bytes x and of x & y are free
+  module _ (x y f g : ℕ) (a b : List ℕ) (first : xs ≡ x ∷ a) (second : ys ≡ y ∷ b) (e : f ≡ free_count (codes (x ∷ [])))
+      (k : g ≡ free_count (codes (bit_and x y ∷ []))) where
+    pub opened-fits : (g ≤ f) × (n + (f - g) ≤ widest)
+    opened-fits = (omega (arith, lost-byte x y), omega (arith, h.most, ap length first, count_most (codes (x ∷ []))))
+
+    pub opened-turn : Opened base cut a b (n + (f - g))
+    opened-turn =
+        record {
+          long = omega (arith, h.long, ap length first, ap length second);
+          most = omega (arith, h.most, ap length first, count_most (codes (x ∷ [])));
+          sum =
+              let s : n + marks (lost (codes (x ∷ a)) (codes (y ∷ b))) ≡ marks (lost (codes base) (codes cut)) = rw (first, second) at h.sum in
+              omega (arith, s, lost-next x y a b, lost-byte x y, opened-fits.0);
+        }
+
+  no-byte : xs ≡ [] → (n ≡ marks (lost (codes base) (codes cut))) × (n ≤ widest)
+  unfolding lost marks
+  no-byte e = let s = rw e at h.sum in (omega (arith, s), omega (arith, h.most))
+
+  pub opened-all : (xs ≡ []) ⊎ (ys ≡ []) → (n ≡ marks (lost (codes base) (codes cut))) × (n ≤ widest)
+  opened-all (inl e) = no-byte e
+  opened-all (inr e) = no-byte (empty xs (h.long ∙ ap length e))
+    where
+      empty : (xs : List ℕ) → length xs ≡ 0 → xs ≡ []
+      empty [] l = refl
+      empty (x ∷ xs) l = absurd (omega arith)
 
 -- of a cut that meets the base, the positions that the base leaves free and the cut does not are those that it fixes
 opens-lost : (x y : Code) → coded (meet_code x y) ≡ true → (is_free x && not (is_free y)) ≡ opens x y

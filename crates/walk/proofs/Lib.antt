@@ -1,5 +1,6 @@
 -- What the proofs of several functions use, and what is proved of the definitions alone.
 pub mod Frees
+pub mod Slices
 pub mod Caps
 pub mod Tallies
 pub mod Recorded

@@ -1,40 +1,42 @@
 -- The tally of the cuts of a difference, from the last one on.
---   kept-front, kept-front-length, into-long   the bytes of the tally's cube that are looked at, and how many there are
+--   kept-front, into-long      the bytes of the tally's cube that are looked at, and how many there are
 --   tally-begun                before the first cut
 --   tally-apart, tally-met     one cut more in front, that does not meet the base and that does
 --   tally-over                 the second bound of the cuts counted, capped
---   back, under, part-back, part-back-length    where the cut before those counted stands
---   tally-more                 that cut, and those counted
---   all_left, none_left        no cut is counted, and all are
-use Prim.Native.Nat.{ℕ, zero, suc, ◌+◌, ◌-◌, ◌*◌, ◌^◌, ◌≤◌, ◌<◌}
-use native.Mathlib.Nat.{suc-mul}
+--   Counted b all rest t       == t is the tally of those of the cuts `all` that stand behind the cuts `rest`, which are left to count
+--   counted-none, counted-turn, counted-all    no cut is counted; one more is; all are
+--   counted-with, counted-least    what is said of a tally's base is said of that base
+--   last-long                  the last of the cuts left has as many bytes as the base
+use Prim.Native.Nat.{ℕ, suc, ◌+◌, ◌*◌, ◌^◌, ◌≤◌}
 use native.Mathlib.Omega.{arith}
-use native.Mathlib.Numerals.{sub-one}
-use mathlib.Core.Path.{◌≡◌, refl, ap, ◌∙◌}
-use mathlib.Core.List.{List, [], ◌∷◌}
+use mathlib.Core.Path.{◌≡◌, refl, sym, ap, subst, ◌∙◌}
+use mathlib.Core.List.{List, [], ◌∷◌, ◌++◌, map, append-nil, append_assoc}
 use mathlib.Core.Bool.{true, false}
-use lib.ListN.{length, take, drop, replicate, length-take, length-drop}
+use lib.ListN.{length, take, replicate, length-append}
+use lib.Seq.{length-take-le}
 use Rattle.model.specs.Cube.{Cube, meet, shares}
-use Rattle.model.specs.Ceiling.{frees, ceiling_from, meeting, mark, matters, marks, ceiling_over, capped}
+use Rattle.model.specs.Difference.{less}
+use Rattle.model.specs.Ceiling.{frees, ceiling_from, meeting, mark, matters, marks, ceiling_over, ceiling, capped}
+use Rattle.std.specs.Borrow.{Bor}
+use Rattle.format.specs.Limits.{most_cuts}
 use Rattle.format.specs.Bytes.{codes}
 use Rattle.format.proofs.Coding.{length-codes}
 use Rattle.cube.specs.Pair.{and_into}
-use Rattle.cube.specs.Whole.{cube_of, whole_at, wholes_at}
+use Rattle.cube.specs.Whole.{cube_of}
 use Rattle.walk.specs.declared.tally.Tally.{Tally}
 use Rattle.walk.specs.Tally.{lost, Tallied}
 use Rattle.walk.proofs.Frees.{frees-lost, lost-mark, lost-none}
 use Rattle.walk.proofs.Caps.{capped-raised}
+use Rattle.walk.proofs.Slices.{AllLong, long-last}
 
 -- the bytes of the tally's cube that the cubes of the difference have
-pub kept-front : (q : ℕ) (k : List ℕ) → codes (take (q - 0) k) ≡ cube_of q k
+pub kept-front : (q : ℕ) (k : List ℕ) → codes (take q k) ≡ cube_of q k
 unfolding cube_of
-kept-front q k = let e : q - 0 ≡ q = omega arith in rw e
-
-pub kept-front-length : (q : ℕ) (k : List ℕ) → q ≤ length k → length (take (q - 0) k) ≡ q
-kept-front-length q k h = let e : q - 0 ≡ q = omega arith in rw e (simp length-take (omega arith))
+kept-front q k = refl
 
 kept-long : (b k : List ℕ) → length b ≤ length k → length (codes b) ≡ length (cube_of (length b) k)
-kept-long b k h = rw (← kept-front (length b) k) (omega (arith, length-codes b, length-codes (take (length b - 0) k), kept-front-length (length b) k h))
+kept-long b k h =
+    rw (← kept-front (length b) k) (omega (arith, length-codes b, length-codes (take (length b) k), length-take-le (length b) k h))
 
 pub into-long : (a b out : List ℕ) → length (and_into a b out) ≡ length out
 into-long [] b out = refl
@@ -43,9 +45,9 @@ into-long (x ∷ a) (y ∷ b) [] = refl
 into-long (x ∷ a) (y ∷ b) (z ∷ out) = ap suc (into-long a b out)
 
 -- before the first cut
-pub tally-begun : (n : ℕ) (b : List ℕ) → length b ≤ n → Tallied b [] (record { nested = 1; met = 0; kept = replicate n 255 })
+pub tally-begun : (n : ℕ) (b : List ℕ) (t : Tally) → length b ≤ n → t.nested ≡ 1 → t.met ≡ 0 → t.kept ≡ replicate n 255 → Tallied b [] t
 unfolding ceiling_from meeting matters
-tally-begun n b h = record { nested = refl; met = refl; kept = lost-none n b h }
+tally-begun n b t h f m k = record { nested = f; met = m; kept = rw k (lost-none n b h) }
 
 -- one cut more
 module _ (b : List ℕ) (c : Cube) (cs : List Cube) (t : Tally) (h : Tallied b cs t) where
@@ -69,40 +71,44 @@ pub tally-over : (b : List ℕ) (cs : List Cube) (t : Tally) → Tallied b cs t 
     → n ≡ capped (1 + t.met * capped (2 ^ s)) → n ≡ capped (ceiling_over (codes b) cs)
 tally-over b cs t h s n i j = j ∙ capped-raised t.met (2 ^ s) ∙ rw (i, h.kept, h.met)
 
--- the cuts from the last one on
-module _ (q : ℕ) (s : List ℕ) (at left k end here : ℕ) (pos : 0 < k) (few : k ≤ left) (e : at + k * q ≡ end) (h : here ≡ end - q) where
-  pub back : (at + (k - 1) * q ≡ here) × (here + q ≡ end)
-  back = go k pos e
-    where
-      go : (k : ℕ) → 0 < k → at + k * q ≡ end → (at + (k - 1) * q ≡ here) × (here + q ≡ end)
-      go zero p f = absurd (omega arith)
-      go (suc m) p f = let g : suc m * q ≡ m * q + q = suc-mul m q in rw (sub-one) (omega arith, omega arith)
+-- the cuts `rest` are left to count, and those behind them are counted
+pub record Counted (b : List ℕ) (all rest : List (List ℕ)) (t : Tally) : Type 0 where
+  pub long : AllLong (length b) rest
+  pub few : t.met + length rest ≤ most_cuts
+  pub behind : List (List ℕ)
+  pub whole : all ≡ rest ++ behind
+  pub tally : Tallied b (map codes behind) t
 
-  pub tally-more : whole_at q s here ∷ wholes_at q s end (left - k) ≡ wholes_at q s here (left - (k - 1))
-  unfolding wholes_at
-  tally-more = let n : left - (k - 1) ≡ suc (left - k) = omega arith in rw (n, back.1)
+pub counted-none : {b : List ℕ} {all : List (List ℕ)} {t : Tally} → AllLong (length b) all → t.met + length all ≤ most_cuts → Tallied b [] t → Counted b all all t
+counted-none {b} {all} l f h = record { long = l; few = f; behind = []; whole = sym (append-nil all); tally = h }
 
--- the part of s that is the cut before `end`
-module _ (s : List ℕ) (end q : ℕ) (h : q ≤ end) (l : end ≤ length s) where
-  width : end - (end - q) ≡ q
-  width = omega arith
+pub counted-all : {b : List ℕ} {all rest : List (List ℕ)} {t : Tally} → Counted b all rest t → rest ≡ [] → Tallied b (map codes all) t
+counted-all {b} {all} {rest} {t} h e =
+    subst (λ (cs : List (List ℕ)). Tallied b (map codes cs) t) (sym (h.whole ∙ ap (λ (r : List (List ℕ)). r ++ h.behind) e)) h.tally
 
-  pub part-back-length : q ≡ length (take (end - (end - q)) (drop (end - q) s))
-  part-back-length = rw width (simp (length-take, length-drop) (omega arith))
+module _ {b : List ℕ} {all rest : List (List ℕ)} {t : Tally} (h : Counted b all rest t) (c : List ℕ) (others : List (List ℕ)) (last : rest ≡ others ++ (c ∷ [])) where
+  pub last-long : (length c ≡ length b) × AllLong (length b) others
+  last-long = long-last (length b) others c (subst (AllLong (length b)) last h.long)
 
-  pub part-back : codes (take (end - (end - q)) (drop (end - q) s)) ≡ whole_at q s (end - q)
-  unfolding whole_at cube_of
-  part-back = rw width
+  fewer : t.met + length others + 1 ≤ most_cuts
+  fewer = omega (arith, h.few, ap length last ∙ length-append others (c ∷ []))
 
-pub under : (at k q end : ℕ) → 0 < k → at + k * q ≡ end → q ≤ end
-under at zero q end p e = absurd (omega arith)
-under at (suc m) q end p e = omega (arith, suc-mul m q)
+  pub counted-turn : (r : Tally) → r.met ≤ t.met + 1 → ((cs : List Cube) → Tallied b cs t → Tallied b (codes c ∷ cs) r) → Counted b all others r
+  counted-turn r m k =
+      record {
+        long = last-long.1;
+        few = omega (arith, fewer, m);
+        behind = c ∷ h.behind;
+        whole = h.whole ∙ ap (λ (l : List (List ℕ)). l ++ h.behind) last ∙ append_assoc others (c ∷ []) h.behind;
+        tally = k (map codes h.behind) h.tally;
+      }
 
--- no cut is counted, and all are
-pub all_left : (q : ℕ) (s : List ℕ) (at left : ℕ) → wholes_at q s (at + left * q) (left - left) ≡ []
-unfolding wholes_at
-all_left q s at left = let e : left - left ≡ 0 = omega arith in rw e
+-- what is said of a tally's base is said of that base
+pub counted-with : {b : Bor (List ℕ)} {c : Cube} {t r : Tally} → t.base ≡ b → ((cs : List Cube) → Tallied t.base.now cs t → Tallied t.base.now (c ∷ cs) r)
+    → (cs : List Cube) → Tallied b.now cs t → Tallied b.now (c ∷ cs) r
+counted-with {b} {c} {t} {r} e = subst (λ (x : Bor (List ℕ)). (cs : List Cube) → Tallied x.now cs t → Tallied x.now (c ∷ cs) r) e
 
-pub none_left : (q : ℕ) (s : List ℕ) (at left k end : ℕ) → k ≤ 0 → at + k * q ≡ end → wholes_at q s end (left - k) ≡ wholes_at q s at left
-none_left q s at left zero end z e = let f : at ≡ end = omega arith in let g : left - 0 ≡ left = omega arith in rw (g, f)
-none_left q s at left (suc k) end z e = absurd (omega arith)
+pub counted-least : {b : Bor (List ℕ)} {n : ℕ} {t : Tally} → t.base ≡ b
+    → ((cs : List Cube) → Tallied t.base.now cs t → n ≡ capped (ceiling (less (codes t.base.now) cs)))
+    → (cs : List Cube) → Tallied b.now cs t → n ≡ capped (ceiling (less (codes b.now) cs))
+counted-least {b} {n} {t} e = subst (λ (x : Bor (List ℕ)). (cs : List Cube) → Tallied x.now cs t → n ≡ capped (ceiling (less (codes x.now) cs))) e

@@ -3,126 +3,110 @@ ghost use Rattle.std.specs.Prelude.{◌≡◌, ◌+◌, ◌^◌, ◌≤◌, ◌<
 ghost use Rattle.model.specs.Cube.{meet};
 ghost use Rattle.model.specs.Walk.{visit, walk_back, walks_less};
 ghost use Rattle.format.specs.Limits.{widest_cube};
+ghost use Rattle.format.specs.Bytes.{codes};
 ghost use Rattle.format.specs.Told.{over};
 ghost use Rattle.format.specs.Calls.{diff_in};
-ghost use Rattle.cube.specs.Whole.{cube_of, whole_at, wholes_at};
-ghost use Rattle.region.specs.Front.{Stands, whole_difference};
-ghost use Rattle.walk.specs.Lent.{Pair, less_cuts};
-ghost use Rattle.walk.specs.Ending.{Ends};
+ghost use Rattle.cube.specs.Whole.{cube_of};
+ghost use Rattle.cube.specs.Row.{slices};
+ghost use Rattle.region.specs.Difference.{difference_of};
 ghost use Rattle.visits.specs.Settle.{settle, says};
+ghost use Rattle.walk.specs.Lent.{less_cuts};
+ghost use Rattle.walk.specs.Ending.{Ended};
 
-use super::record::load;
-use super::stop::{Stop, all_covered};
+use super::record::{piece_of, visit};
+use super::stop::{Stop, covered, fresh};
 use super::told::tell;
-use answer::Answer;
-use cube::{WIDEST_CUBE, cube_len, header_len, meet_into, meets, put};
-use region::{Front, MOST_CUTS, front_at, two_refusal};
-use visits::walk::walk;
+use answer::{Answer, Refusal};
+use cube::{Row, WIDEST_CUBE, header_len, meet_into, meets, put};
+use region::{Difference, MOST_CUTS, two_differences};
 use visits::{Allowance, Outcome, Verdict};
 
 // The bytes of the cuts of a difference, and of one cut more.
 const GATHERED: usize = (MOST_CUTS + 1) * WIDEST_CUBE;
 
-// The cuts of the record with the front f in s, and the base of the one with the front g in t as one more behind them.
-fn gathered(q: usize, s: &[u8], f: Front, t: &[u8], g: Front) -> [u8; GATHERED]
-    requires { Pair q s.now f t.now g }
-    ensures { wholes_at q result 0 (f.cuts + 1) ≡ less_cuts q s.now f t.now g }
+// The meet of two cubes, as a piece.
+fn met(base: &[u8], cut: &[u8]) -> [u8; WIDEST_CUBE]
+    requires { (length base.now ≡ length cut.now) × (length base.now ≤ widest_cube) }
+    ensures { cube_of (length base.now) result ≡ meet (codes base.now) (codes cut.now) }
 {
-    let from = f.base + q;
-    let n = f.cuts * q;
-    let end = from + n;
-    let base = g.base;
-    let mut all = [255u8; GATHERED];
-    put(&mut all, 0, &s[from..end]);
-    put(&mut all, n, &t[base..base + q]);
-    all
-}
-
-// Walks the first piece of s less t: the base of s, less its cuts and the base of t.
-fn walk_first(q: usize, s: &[u8], f: Front, t: &[u8], g: Front, a: Allowance) -> Outcome
-    requires { Pair q s.now f t.now g × (a.left + a.spent < 2 ^ 32) }
-    ensures { says q result ≡ settle a (visit (less_cuts q s.now f t.now g) (whole_difference q s.now f).base) }
-{
-    let all = gathered(q, s, f, t, g);
-    walk(q, load(s, f.base, q), &all, 0, f.cuts + 1, a)
-}
-
-// The meet of the base of s and the cut that stands in t at an offset, as a piece.
-fn meet_at(q: usize, s: &[u8], f: Front, t: &[u8], at: usize) -> [u8; WIDEST_CUBE]
-    requires { (q ≤ widest_cube) × Stands q s.now f × (at + q ≤ length t.now) }
-    ensures { cube_of q result ≡ meet (whole_difference q s.now f).base (whole_at q t.now at) }
-{
-    let base = f.base;
-    let cuts = base + q;
-    let end = at + q;
     let mut piece = [255u8; WIDEST_CUBE];
-    meet_into(&s[base..cuts], &t[at..end], &mut piece);
+    meet_into(base, cut, &mut piece);
     piece
 }
 
-// Walks what the cut that stands in t at an offset gives back of s: nothing where it shares no header with the base of s.
-fn walk_back(q: usize, s: &[u8], f: Front, t: &[u8], at: usize, a: Allowance) -> Outcome
-    requires { (q ≤ widest_cube) × Stands q s.now f × (at + q ≤ length t.now) × (a.left + a.spent < 2 ^ 32) }
-    ensures { says q result ≡ settle a (walk_back (whole_difference q s.now f) (whole_at q t.now at)) }
-{
-    let piece = meet_at(q, s, f, t, at);
-    let base = f.base;
-    let cuts = base + q;
-    let end = at + q;
-    if !meets(&s[base..cuts], &t[at..end]) {
-        return Outcome {
-            allowance: a,
-            verdict: Verdict::Covered,
-            piece,
-        };
-    }
-    walk(q, piece, s, cuts, f.cuts, a)
+// Two differences of cubes with as many bytes: the one that is asked about, and the one that is subtracted from it.
+#[derive(Clone, Copy, Debug, PartialEq, Eq)]
+struct Pair<'a> {
+    first: Difference<'a>,
+    second: Difference<'a>,
+    ghost alike: { length first.base.now ≡ length second.base.now },
 }
 
-// Walks what the cuts of t give back of s, one after another on one allowance, up to the first that is not covered. The first piece, which is
-// walked before, is counted.
-fn walk_restored(q: usize, s: &[u8], f: Front, t: &[u8], g: Front, a: Allowance) -> Stop
-    requires { Pair q s.now f t.now g × (a.left + a.spent < 2 ^ 32) }
-    ensures { Ends q a 1 (map (walk_back (whole_difference q s.now f)) (whole_difference q t.now g).cuts) result }
-{
-    let mut have = a;
-    let mut at = g.base + q;
-    let mut left = g.cuts;
-    let mut i: u16 = 1;
-    while 0 < left {
-        let v = walk_back(q, s, f, t, at, have);
-        let k = v.verdict;
-        let Verdict::Covered = k else {
-            return Stop {
-                outcome: v,
-                index: i,
+impl Pair<'_> {
+    // The cuts of the first, and the base of the second as one more behind them.
+    fn gathered(self) -> [u8; GATHERED]
+        ensures { map codes (slices (length self.entry.first.base.now) result (self.entry.first.cuts.count + 1)) ≡ less_cuts (difference_of self.entry.first) (difference_of self.entry.second) }
+    {
+        let cuts = self.first.cuts;
+        let n = cuts.count * cuts.size;
+        let mut all = [255u8; GATHERED];
+        put(&mut all, 0, &cuts.bytes[..n]);
+        put(&mut all, n, self.second.base);
+        all
+    }
+
+    // Walks the first piece: the base of the first, less its cuts and the base of the second.
+    fn walk_first(self, a: Allowance) -> Outcome<[u8; WIDEST_CUBE]>
+        requires { a.left + a.spent < 2 ^ 32 }
+        ensures { says (length self.entry.first.base.now) result ≡ settle a (visit (less_cuts (difference_of self.entry.first) (difference_of self.entry.second)) (codes self.entry.first.base.now)) }
+    {
+        let all = self.gathered();
+        let cuts = Row {
+            bytes: &all,
+            size: self.first.cuts.size,
+            count: self.first.cuts.count + 1,
+        };
+        visit(piece_of(self.first.base), cuts, a)
+    }
+
+    // Walks what a cut gives back of the first: nothing where it shares no header with its base.
+    fn walk_back(self, cut: &[u8], a: Allowance) -> Outcome<[u8; WIDEST_CUBE]>
+        requires { (length self.first.base.now ≡ length cut.now) × (a.left + a.spent < 2 ^ 32) }
+        ensures { says (length self.entry.first.base.now) result ≡ settle a (walk_back (difference_of self.entry.first) (codes cut.now)) }
+    {
+        let base = self.first.base;
+        let piece = met(base, cut);
+        if !meets(base, cut) {
+            return Outcome {
+                allowance: a,
+                verdict: Verdict::Covered,
+                piece,
             };
-        };
-        have = v.allowance;
-        at += q;
-        left -= 1;
-        i += 1;
+        }
+        visit(piece, self.first.cuts, a)
     }
-    Stop {
-        outcome: all_covered(have),
-        index: i,
-    }
-}
 
-// Walks the untidied pieces of s less t in their order on one allowance, up to the first that is not covered.
-fn walk_less(q: usize, s: &[u8], f: Front, t: &[u8], g: Front, a: Allowance) -> Stop
-    requires { Pair q s.now f t.now g × (a.left + a.spent < 2 ^ 32) }
-    ensures { Ends q a 0 (walks_less (whole_difference q s.now f) (whole_difference q t.now g)) result }
-{
-    let v = walk_first(q, s, f, t, g, a);
-    let k = v.verdict;
-    let Verdict::Covered = k else {
-        return Stop {
-            outcome: v,
-            index: 0,
-        };
-    };
-    walk_restored(q, s, f, t, g, v.allowance)
+    // Walks what the cuts of the second give back of the first, one after another on one allowance, up to the first that is not covered. The first piece,
+    // which is walked before, is counted.
+    fn walk_restored(self, a: Allowance) -> Result<Allowance, Stop>
+        requires { a.left + a.spent < 2 ^ 32 }
+        ensures { Ended (length self.entry.first.base.now) a 1 (map (walk_back (difference_of self.entry.first)) (difference_of self.entry.second).cuts) result }
+    {
+        let mut left = a;
+        for (i, cut) in self.second.cuts.enumerate() {
+            left = covered(self.walk_back(cut, left), 1 + i as u16)?;
+        }
+        Ok(left)
+    }
+
+    // Walks the untidied pieces of the first less the second in their order on one allowance, up to the first that is not covered.
+    fn walk_less(self, a: Allowance) -> Result<Allowance, Stop>
+        requires { a.left + a.spent < 2 ^ 32 }
+        ensures { Ended (length self.entry.first.base.now) a 0 (walks_less (difference_of self.entry.first) (difference_of self.entry.second)) result }
+    {
+        let left = covered(self.walk_first(a), 0)?;
+        self.walk_restored(left)
+    }
 }
 
 // Whether each header of the difference in the record s is in that of t: yes; no, and a header that is in the first and not in the second is written
@@ -131,18 +115,13 @@ pub fn diff_in(w: usize, s: &[u8], t: &[u8], allowance: u32, out: &mut [u8]) -> 
     ensures answer { result ≡ (diff_in w s.now t.now allowance (length out.old)).answer }
     ensures bytes { out.new ≡ over out.old (diff_in w s.now t.now allowance (length out.old)).bytes }
 {
-    let refusal = two_refusal(w, s, t);
-    if refusal.number != 0 {
-        return refusal;
-    }
-    if out.len() < header_len(w) {
-        return Answer::refused(22);
-    }
-    let start = Allowance {
-        left: allowance,
-        spent: 0,
+    let (first, second) = match two_differences(w, s, t) {
+        Ok(pair) => pair,
+        Err(refusal) => return refusal,
     };
-    let f = front_at(s, 0);
-    let g = front_at(t, 0);
-    tell(walk_less(cube_len(w), s, f, t, g, start), w, out)
+    if out.len() < header_len(w) {
+        return Refusal::Room.into();
+    }
+    let pair = Pair { first, second };
+    tell(pair.walk_less(fresh(allowance)), w, out)
 }

@@ -1,6 +1,7 @@
 // The walk of records and region files on an allowance: emptiness, inclusion, the ceiling.
 #![tactic(auto)]
 
+mod bounds;
 mod ceilings;
 mod empty;
 mod inclusion;

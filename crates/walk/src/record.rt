@@ -1,31 +1,43 @@
-// The walk of the difference in a record.
-ghost use Rattle.std.specs.Prelude.{◌≡◌, ◌+◌, ◌^◌, ◌≤◌, ◌<◌, length, take, drop};
-ghost use Rattle.model.specs.Walk.{walk};
-ghost use Rattle.format.specs.Limits.{widest_cube};
-ghost use Rattle.region.specs.Front.{Stands, whole_difference};
+// The walk of a difference.
+ghost use Rattle.std.specs.Prelude.{◌≡◌, ◌+◌, ◌^◌, ◌≤◌, ◌<◌, length, take};
+ghost use Rattle.model.specs.Walk.{walk, visit};
+ghost use Rattle.format.specs.Limits.{widest_cube, most_cuts};
+ghost use Rattle.cube.specs.Whole.{cube_of};
+ghost use Rattle.region.specs.Difference.{difference_of};
 ghost use Rattle.visits.specs.Settle.{settle, says};
+ghost use Rattle.walk.specs.Lent.{cubes_of};
 
-use cube::{WIDEST_CUBE, put};
-use region::Front;
+use cube::{Row, WIDEST_CUBE, put};
+use region::Difference;
 use visits::walk::walk;
 use visits::{Allowance, Outcome};
 
-// The cube of q bytes that stands in s at an offset, as a piece.
-pub(crate) fn load(s: &[u8], at: usize, q: usize) -> [u8; WIDEST_CUBE]
-    requires { (q ≤ widest_cube) × (at + q ≤ length s.now) }
-    ensures { take q result ≡ take q (drop at s.now) }
+// A cube as a piece.
+pub(crate) fn piece_of(cube: &[u8]) -> [u8; WIDEST_CUBE]
+    requires { length cube.now ≤ widest_cube }
+    ensures { take (length cube.now) result ≡ cube.now }
 {
-    let end = at + q;
     let mut piece = [255u8; WIDEST_CUBE];
-    put(&mut piece, 0, &s[at..end]);
+    put(&mut piece, 0, cube);
     piece
 }
 
-// Walks the difference of the record with that front, whose cubes have q bytes.
-pub(crate) fn walk_record(q: usize, s: &[u8], front: Front, a: Allowance) -> Outcome
-    requires { (q ≤ widest_cube) × Stands q s.now front × (a.left + a.spent < 2 ^ 32) }
-    ensures { says q result ≡ settle a (walk (whole_difference q s.now front)) }
+// Visits the piece with those cuts left.
+pub(crate) fn visit(
+    piece: [u8; WIDEST_CUBE],
+    cuts: Row<'_>,
+    a: Allowance,
+) -> Outcome<[u8; WIDEST_CUBE]>
+    requires { (cuts.size ≤ widest_cube) × (cuts.count ≤ most_cuts + 1) × (a.left + a.spent < 2 ^ 32) }
+    ensures { says cuts.entry.size result ≡ settle a (visit (cubes_of cuts.entry) (cube_of cuts.entry.size piece)) }
 {
-    let cuts = front.base + q;
-    walk(q, load(s, front.base, q), s, cuts, front.cuts, a)
+    walk(cuts.size, piece, cuts.bytes, 0, cuts.count, a)
+}
+
+// Walks a difference.
+pub(crate) fn walk_record(d: Difference<'_>, a: Allowance) -> Outcome<[u8; WIDEST_CUBE]>
+    requires { a.left + a.spent < 2 ^ 32 }
+    ensures { says (length d.entry.base.now) result ≡ settle a (walk (difference_of d.entry)) }
+{
+    visit(piece_of(d.base), d.cuts, a)
 }

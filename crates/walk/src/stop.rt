@@ -1,24 +1,40 @@
 // How walks end that are walked one after another, and at which of them.
-ghost use Rattle.std.specs.Prelude.{◌≡◌};
-ghost use Rattle.visits.specs.declared.allowance.Verdict.TheVariants.{Covered};
+ghost use Rattle.std.specs.Prelude.{◌≡◌, ◌<◌, ◌+◌, ◌^◌};
+ghost use Rattle.visits.specs.Settle.{says};
+ghost use Rattle.walk.specs.Ending.{CoveredIs};
 
 use cube::WIDEST_CUBE;
 use visits::{Allowance, Outcome, Verdict};
 
-// The outcome, and how many walks were covered before the one that decided; where all are covered, how many there are.
-#[derive(Clone, Copy)]
+// The walk that is not covered: the piece that survives it, or none where the allowance did not pay; how many pieces were paid for; and how many walks were
+// covered before.
+#[derive(Clone, Copy, Debug, PartialEq, Eq)]
 pub(crate) struct Stop {
-    pub(crate) outcome: Outcome,
+    pub(crate) survivor: Option<[u8; WIDEST_CUBE]>,
+    pub(crate) spent: u32,
     pub(crate) index: u16,
 }
 
-// Nothing is left to walk, and this is left of the allowance.
-pub(crate) fn all_covered(have: Allowance) -> Outcome
-    ensures { (result.allowance ≡ have) × (result.verdict ≡ Covered) }
+// What the walk with that index leaves of the allowance where it is covered; else the walks stop with it.
+pub(crate) fn covered(outcome: Outcome<[u8; WIDEST_CUBE]>, index: u16) -> Result<Allowance, Stop>
+    ensures { CoveredIs outcome index result }
 {
-    Outcome {
-        allowance: have,
-        verdict: Verdict::Covered,
-        piece: [255u8; WIDEST_CUBE],
-    }
+    let spent = outcome.allowance.spent;
+    let survivor = match outcome.verdict {
+        Verdict::Covered => return Ok(outcome.allowance),
+        Verdict::Survives => Some(outcome.piece),
+        Verdict::Undecided => None,
+    };
+    Err(Stop {
+        survivor,
+        spent,
+        index,
+    })
+}
+
+// The allowance with nothing spent.
+pub(crate) fn fresh(left: u32) -> Allowance
+    ensures { (result ≡ record { left = left; spent = 0 }) × (result.left + result.spent < 2 ^ 32) }
+{
+    Allowance { left, spent: 0 }
 }

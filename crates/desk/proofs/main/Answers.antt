@@ -3,11 +3,11 @@ use Rattle.std.proofs.Common.{ℕ, sym}
 use lib.ListN.{length-replicate}
 use Rattle.desk.proofs.main.Goals as goal
 
+pub slice_bounds-new-end : goal.slice_bounds-new-end
+slice_bounds-new-end c = sym (length-replicate {A = ℕ} 589824 0)
+
+pub slice_bounds-new-end-2 : goal.slice_bounds-new-end-2
+slice_bounds-new-end-2 c = sym (length-replicate {A = ℕ} 2097152 0)
+
 pub slice_bounds-answer_all-end : goal.slice_bounds-answer_all-end
-slice_bounds-answer_all-end c = sym (length-replicate {A = ℕ} 589824 0)
-
-pub slice_bounds-answer_all-end-2 : goal.slice_bounds-answer_all-end-2
-slice_bounds-answer_all-end-2 c = sym (length-replicate {A = ℕ} 1048576 0)
-
-pub slice_bounds-answer_all-end-3 : goal.slice_bounds-answer_all-end-3
-slice_bounds-answer_all-end-3 c = sym (length-replicate {A = ℕ} 2097152 0)
+slice_bounds-answer_all-end c = sym (length-replicate {A = ℕ} 1048576 0)

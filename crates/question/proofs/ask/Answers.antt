@@ -9,7 +9,7 @@ use Rattle.question.proofs.ask.Goals as goal
 pub returns-then-input-gt-MOST_INPUT-clause-answer : goal.returns-then-input-gt-MOST_INPUT-clause-answer
 unfolding question
 returns-then-input-gt-MOST_INPUT-clause-answer c =
-    let e = reached 0 _ c.if-input-gt-MOST_INPUT.true in c.refused.ensures ∙ ap (λ (t : Told). t.answer) e
+    let e = reached 0 _ c.if-input-gt-MOST_INPUT.true in c.from.ensures ∙ ap (λ (t : Told). t.answer) e
 
 pub returns-then-input-gt-MOST_INPUT-clause-bytes : goal.returns-then-input-gt-MOST_INPUT-clause-bytes
 unfolding question

@@ -6,7 +6,7 @@ use lib.ListN.{get_or, set}
 use lib.Seq.{set_out}
 use Rattle.format.specs.Bytes.{code_of, codes}
 use Rattle.format.proofs.Coding.{length-codes}
-use Rattle.cube.proofs.Coded.{weight-pow, code_here, room, codes-set}
+use Rattle.cube.proofs.Coded.{weight-pow, code_here, code-min, room, codes-set}
 use Rattle.cube.proofs.code.set_code.Goals as goal
 
 -- the weight of the place, as the laws have it
@@ -25,11 +25,11 @@ taken : (c : goal.After-code_at) → let x = c.args in
     c.code_at.result * 4 ^ (3 - x.p % 4) ≤ get_or x.c.now (x.p / 4) 0
 taken c = let x = c.args in rw (was c) (room (get_or x.c.now (x.p / 4) 0) x.p 0 (byte c) (omega arith)).0
 
-laid : (c : goal.After-code_number) → let x = c.args in
-    get_or x.c.now (x.p / 4) 0 - c.code_at.result * 4 ^ (3 - x.p % 4) + c.code_number.result * 4 ^ (3 - x.p % 4) < 256
+laid : (c : goal.After-min) → let x = c.args in
+    get_or x.c.now (x.p / 4) 0 - c.code_at.result * 4 ^ (3 - x.p % 4) + c.min.result * 4 ^ (3 - x.p % 4) < 256
 laid c =
     let x = c.args in
-    rw (was c.before) (room (get_or x.c.now (x.p / 4) 0) x.p c.code_number.result (byte c.before) c.code_number.ensures.1).1
+    rw (was c.before) (room (get_or x.c.now (x.p / 4) 0) x.p c.min.result (byte c.before) (omega arith)).1
 
 pub returns-then-c-at : goal.returns-then-c-at
 returns-then-c-at c = let x = c.args in sym (set_out (codes x.c.now) x.p (code_of x.v) (omega (arith, length-codes x.c.now)))
@@ -40,9 +40,6 @@ overflow_mul-c c = rw (weight c) (record { fits = omega (arith, byte c, taken c)
 pub overflow_sub-c : goal.overflow_sub-c
 overflow_sub-c c = rw (weight c) (taken c)
 
-pub overflow_mul-c-2 : goal.overflow_mul-c-2
-overflow_mul-c-2 c = rw (weight c.before) (record { fits = omega (arith, laid c) })
-
 pub overflow_add-c : goal.overflow_add-c
 overflow_add-c c = rw (weight c.before) (record { fits = laid c })
 
@@ -50,5 +47,4 @@ pub returns : goal.returns
 returns c =
     let x = c.args in
     rw (weight c.before, was c.before)
-    (codes-set x.c.now x.p c.code_number.result (omega arith) c.code_number.ensures.1
-    ∙ ap (set (codes x.c.now) x.p) c.code_number.ensures.0)
+    (codes-set x.c.now x.p c.min.result (omega arith) (omega arith) ∙ ap (set (codes x.c.now) x.p) (ap code_of c.min.ensures ∙ code-min x.v))

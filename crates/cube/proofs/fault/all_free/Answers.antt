@@ -1,24 +1,18 @@
-use mathlib.Core.Path.{refl}
+use Prim.Native.Nat.{◌+◌}
+use mathlib.Core.Path.{◌∙◌}
 use native.Mathlib.Omega.{arith}
 use lib.Bits.{bit_xor}
-use borrow.Author.Rules.{rules}
+use lib.ListN.{get_or, drop}
+use Rattle.std.proofs.lemmas.List.{at_drop_more}
 use Rattle.format.specs.Bytes.{codes, all_free}
-use Rattle.cube.proofs.Loops.{gathered, ended}
+use Rattle.cube.proofs.Loops.{gathered}
 use Rattle.cube.proofs.Steps.{free_step}
 use Rattle.cube.proofs.fault.all_free.Goals as goal
 
-pub loop-i-preserved : goal.loop-i-preserved
-loop-i-preserved c =
-    let l = c.before.before in
-    let x = l.before.args.c.now in
-    let i = l.loop-i.i in (
-      search rules,
-      gathered (λ a b. all_free (codes a)) (λ y _. bit_xor y 255) (λ y _ a _. free_step y a) x x i (omega arith) (omega arith)
-          (omega (arith, c.shared_slice_known-1.given i)) l.loop-i.bad l.loop-i.invariant.1,
-    )
-
-pub returns : goal.returns
-returns c =
-    let l = c.before in
-    let x = l.before.args.c.now in
-    ended (λ a b. all_free (codes a)) refl x x l.loop-i.i (omega arith) (omega arith) _ l.loop-i.invariant.1
+pub loop-b-preserved : goal.loop-b-preserved
+loop-b-preserved c =
+    let l = c.loop-b in
+    let x = c.args.c.now in
+    let b = get_or x l.b-index 0 in
+    let left = drop (l.b-index + 1) x in
+    gathered l.bad (bit_xor b 255) _ (all_free (codes left)) _ (at_drop_more (λ a. all_free (codes a)) x l.b-index 0 (omega arith) ∙ free_step b left (omega arith)) l.invariant

@@ -3,69 +3,65 @@ use mathlib.Core.Path.{◌≡◌, sym, ap, ◌∙◌}
 use mathlib.Core.List.{List}
 use mathlib.Core.Bool.{Bool, true, false, not}
 use Prim.Native.Nat.{ℕ, suc, ◌+◌, ◌-◌, ◌/◌}
+use Rattle.std.proofs.lemmas.Result.{err_from_is_err_and}
 use lib.ListN.{length, take, drop}
 use borrow.Author.Rules.{rules}
 use Rattle.model.specs.Cube.{solid, shares}
 use Rattle.format.specs.Bytes.{codes, all_free}
 use Rattle.format.proofs.Reached.{reached}
+use Rattle.format.proofs.Refusals.{numbered}
 use Rattle.cube.proofs.Codes.{shares-self}
-use Rattle.cube.proofs.Parts.{first_part, last-part}
+use Rattle.cube.proofs.Parts.{last-part}
 use Rattle.cube.proofs.Faults.{short-fault, part_rows, cube-parts}
 use Rattle.cube.proofs.fault.cube_fault.Goals as goal
 
 -- what the calls on the whole and on parts of it say
-clear : (c : List ℕ) (r t : Bool) → r ≡ shares (codes c) (codes c) → r ≡ t → solid (codes c) ≡ t
-clear c r t e f = sym (shares-self (codes c)) ∙ sym e ∙ f
+clear : (c : List ℕ) (t : Bool) → t ≡ shares (codes c) (codes c) → solid (codes c) ≡ t
+clear c t e = sym (shares-self (codes c)) ∙ sym e
 
-front : (c : List ℕ) (k : ℕ) (r t : Bool) → r ≡ shares (codes (take (k - 0) c)) (codes (take (k - 0) c)) → r ≡ t → not (solid (codes (take k c))) ≡ not t
-front c k r t e f = ap (λ (l : List ℕ). not (solid (codes l))) (sym (first_part c k)) ∙ ap not (clear (take (k - 0) c) r t e f)
+front : (c : List ℕ) (t : Bool) → t ≡ shares (codes c) (codes c) → not (solid (codes c)) ≡ not t
+front c t e = ap not (clear c t e)
 
-rest : (c : List ℕ) (k : ℕ) (r t : Bool) → r ≡ all_free (codes (take (length c - (k + 1)) (drop (k + 1) c))) → r ≡ t → not (all_free (codes (drop (suc k) c))) ≡ not t
-rest c k r t e f = ap (λ (l : List ℕ). not (all_free (codes l))) (sym (last-part c k)) ∙ ap not (sym e ∙ f)
+rest : (c : List ℕ) (k : ℕ) (t : Bool) → t ≡ all_free (codes (take (length c - (k + 1)) (drop (k + 1) c))) → not (all_free (codes (drop (suc k) c))) ≡ not t
+rest c k t e = ap (λ (l : List ℕ). not (all_free (codes l))) (sym (last-part c k)) ∙ ap not (sym e)
 
 pub returns-then-meets : goal.returns-then-meets
-returns-then-meets c =
-    let x = c.args in
-    short-fault x.w x.c.now c.if-c-whole.true true (clear x.c.now _ true c.meets.ensures c.if-meets.true)
+returns-then-meets c = let x = c.args in short-fault x.w x.c.now c.if-c-whole.true true (clear x.c.now true c.if-meets.ensures)
 
 pub returns-then-c-whole : goal.returns-then-c-whole
-returns-then-c-whole c =
-    let x = c.args in
-    short-fault x.w x.c.now c.if-c-whole.true false (clear x.c.now _ false c.meets.ensures c.if-meets.false)
+returns-then-c-whole c = let x = c.args in short-fault x.w x.c.now c.if-c-whole.true false (clear x.c.now false c.if-meets.ensures)
 
 pub returns-then-not-meets : goal.returns-then-not-meets
 returns-then-not-meets c =
     let x = c.args in
-    reached 0 (part_rows x.w x.c.now) (front x.c.now (x.w / 4) _ false c.meets-2.ensures c.if-not-meets.true)
-    ∙ cube-parts x.w x.c.now (search rules)
+    reached 0 (part_rows x.w x.c.now) (front (take (x.w / 4) x.c.now) false c.if-not-meets.ensures) ∙ cube-parts x.w x.c.now (search rules)
 
-pub returns-then-fault-ne0 : goal.returns-then-fault-ne0
-returns-then-fault-ne0 c =
-    let s = c.before.before.before in
-    let x = s.args in
-    c.byte_fault-fault.ensures
-    ∙ reached 1 (part_rows x.w x.c.now)
-    (front x.c.now (x.w / 4) _ true s.meets-2.ensures s.if-not-meets.false, λ e. c.if-fault-ne0.true (c.byte_fault-fault.ensures ∙ e))
-    ∙ cube-parts x.w x.c.now (search rules)
+pub returns-in_err-byte_fault : goal.returns-in_err-byte_fault
+returns-in_err-byte_fault c =
+    let x = c.args in
+    let p = err_from_is_err_and c.from_residual.result c.from_residual.ensures.1 in
+    rw (p.1, p.2)
+    (c.in_err-byte_fault.ensures
+    ∙ reached 1 (part_rows x.w x.c.now) (
+      front (take (x.w / 4) x.c.now) true c.if-not-meets.ensures,
+      λ e. numbered c.in_err-byte_fault.field-0.0 (c.in_err-byte_fault.ensures ∙ e),
+    )
+    ∙ cube-parts x.w x.c.now (search rules))
 
 pub returns-then-all_free : goal.returns-then-all_free
 returns-then-all_free c =
-    let b = c.before.before.before in
-    let s = b.before.before.before in
-    let x = s.args in
+    let x = c.args in
     reached 3 (part_rows x.w x.c.now) (
-      front x.c.now (x.w / 4) _ true s.meets-2.ensures s.if-not-meets.false,
-      (sym b.byte_fault-fault.ensures ∙ b.if-fault-ne0.false, (rest x.c.now (x.w / 4) _ true c.all_free.ensures c.if-all_free.true, tt)),
+      front (take (x.w / 4) x.c.now) true c.if-not-meets.ensures,
+      (sym c.in_ok-byte_fault.ensures, (rest x.c.now (x.w / 4) true c.if-all_free.ensures, tt)),
     )
     ∙ cube-parts x.w x.c.now (search rules)
 
 pub returns : goal.returns
 returns c =
-    let b = c.before.before.before in
-    let s = b.before.before.before in
-    let x = s.args in
+    let x = c.args in
     reached 2 (part_rows x.w x.c.now) (
-      front x.c.now (x.w / 4) _ true s.meets-2.ensures s.if-not-meets.false,
-      (sym b.byte_fault-fault.ensures ∙ b.if-fault-ne0.false, rest x.c.now (x.w / 4) _ false c.all_free.ensures c.if-all_free.false),
+      front (take (x.w / 4) x.c.now) true c.if-not-meets.ensures,
+      (sym c.in_ok-byte_fault.ensures, rest x.c.now (x.w / 4) false c.if-all_free.ensures),
     )
     ∙ cube-parts x.w x.c.now (search rules)

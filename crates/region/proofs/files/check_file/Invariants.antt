@@ -1,12 +1,11 @@
--- `region::files::check_file` meets its contract. The loop's invariant (`Reached`): the n records passed
--- are accepted.
+-- `region::files::check_file` meets its contract.
 use Prim.Native.Nat.{◌-◌}
+use mathlib.Core.Path.{◌≡◌}
 use lib.ListN.{length}
-use Rattle.region.proofs.Reading.{Reached}
 use Rattle.region.proofs.files.check_file.Given as goal
 
-abbrev pub invariant-loop-at : goal.invariant-loop-at
-invariant-loop-at l = Reached l.s l.at l.n
+abbrev pub invariant-loop : goal.invariant-loop
+invariant-loop l = l.records.file.now ≡ l.s
 
-abbrev pub decreases-loop-at : goal.decreases-loop-at
-decreases-loop-at l = length l.s - l.at
+abbrev pub decreases-loop : goal.decreases-loop
+decreases-loop l = length l.s - l.records.place

@@ -1,10 +1,17 @@
--- `region::lent::two_refusal` meets its contract.
-use mathlib.Core.Path.{◌∙◌}
-use Rattle.format.proofs.Lending.{one-refused, one-passed}
+-- `region::lent::two_refusal` meets its contract: the refusal of the width or of the first record comes first, and then the second record's.
+use native.Mathlib.Omega.{arith}
+use Rattle.std.proofs.lemmas.Result.{err_from_is_err_and}
+use Rattle.format.specs.Told.{one_record, record_tests}
+use Rattle.format.proofs.Lending.{tested-refused, tested-passed}
 use Rattle.region.proofs.lent.two_refusal.Goals as goal
 
-pub returns-then-refusal-ne0 : goal.returns-then-refusal-ne0
-returns-then-refusal-ne0 c = one-refused _ _ _ c.one_refusal-refusal.ensures (λ r. r) _ c.if-refusal-ne0.true
+pub returns-in_err-one_difference : goal.returns-in_err-one_difference
+returns-in_err-one_difference c =
+    let x = c.args in
+    let p = err_from_is_err_and c.from_residual.result c.from_residual.ensures.1 in
+    rw (p.1, p.2) (tested-refused (one_record x.w x.s.now) (record_tests x.w x.t.now 2) _ (omega arith) c.in_err-one_difference.ensures)
 
 pub returns : goal.returns
-returns c = c.record_refusal.ensures ∙ one-passed _ _ _ c.one_refusal-refusal.ensures (λ r. r) _ c.if-refusal-ne0.false
+returns c =
+    let x = c.args in
+    tested-passed (one_record x.w x.s.now) (record_tests x.w x.t.now 2) _ (omega arith) c.in_ok-one_difference.ensures.0 c.record_refusal.ensures

@@ -1,24 +1,25 @@
-use mathlib.Core.Path.{refl, sym, ◌∙◌}
-use lib.ListN.{length}
-use Rattle.region.proofs.Onward.{seek-end, seek-here, seek-turn}
+-- `region::offset::seek` meets its contract.
+use Prim.Native.Nat.{ℕ, suc, ◌+◌, ◌-◌, ◌<◌}
+use native.Mathlib.Omega.{arith}
+use mathlib.Core.Path.{◌≡◌, sym, ap, ◌∙◌}
+use mathlib.Core.List.{List}
+use lib.ListN.{length, get_or}
+use Rattle.region.specs.Ahead.{ahead}
+use Rattle.region.specs.Front.{front_at}
+use Rattle.region.proofs.Onward.{seek-turn, seek-found}
 use Rattle.region.proofs.offset.seek.Goals as goal
 
-pub loop-at-init : goal.loop-at-init
-loop-at-init c = rw c.first_at-at.ensures refl
+-- one turn of i before d
+turn : (s : List ℕ) (at i d next : ℕ) → i < d → next ≡ (front_at s at).next
+    → get_or (ahead s next) (d - (i + 1)) (length s) ≡ get_or (ahead s at) (d - i) (length s)
+turn s at i d next h e =
+    let k : d - i ≡ suc (d - (i + 1)) = omega arith in
+    rw (e, k) (sym (seek-turn s at (d - (i + 1)) (length s)))
 
-pub returns-then-left-eq0 : goal.returns-then-left-eq0
-returns-then-left-eq0 c =
-    let x = c.args in
-    sym (seek-here x.s.now c.loop-at.at c.loop-at.left _ c.loop-at-test.true c.if-left-eq0.true)
-    ∙ c.loop-at.invariant
-
-pub loop-at-preserved : goal.loop-at-preserved
-loop-at-preserved c =
-    let x = c.args in
-    let s = x.s.now in
-    rw c.front_at-front.ensures.0.next (sym (seek-turn s c.loop-at.at c.loop-at.left (length s) c.loop-at-test.true c.if-left-eq0.false) ∙ c.loop-at.invariant)
+pub loop-preserved : goal.loop-preserved
+loop-preserved c = turn c.args.s.now c.loop.at c.loop.counter c.args.d _ c.loop-test.true c.front_at-at.ensures.0.next ∙ c.loop.invariant
 
 pub returns : goal.returns
 returns c =
-    let x = c.args in
-    sym (seek-end x.s.now c.loop-at.at c.loop-at.left _ c.loop-at-test.false) ∙ c.loop-at.invariant
+    let k : c.args.d - c.loop.counter ≡ 0 = omega arith in
+    c.min.ensures ∙ sym (seek-found c.args.s.now c.loop.at) ∙ ap (λ (i : ℕ). get_or (ahead c.args.s.now c.loop.at) i (length c.args.s.now)) (sym k) ∙ c.loop.invariant

@@ -1,33 +1,18 @@
 -- `region::writer::record_len` meets its contract.
-use Prim.Native.Nat.{◌+◌, ◌*◌, ◌≤◌}
 use native.Mathlib.Omega.{arith}
+use mathlib.Core.Path.{sym}
 use Rattle.format.specs.Records.{front_len}
-use Rattle.format.specs.Limits.{widest_cube, most_cuts}
-use Rattle.format.proofs.Reached.{reached}
-use Rattle.region.proofs.Writing.{cubes-few}
-use Rattle.region.specs.Writing.{len_rows, record_len}
+use Rattle.region.proofs.Writing.{limited-out, cubes-few, record-len}
+use Rattle.region.specs.Writing.{record_len}
 use Rattle.region.proofs.writer.record_len.Goals as goal
 
-few : (c : goal.After-front_len) → let x = c.args in (x.k + 1) * x.q ≤ (most_cuts + 1) * widest_cube
-few c = let x = c.args in cubes-few x.k x.q c.if-k-gt-MOST_CUTS.false c.if-q-gt-WIDEST_CUBE.false
-
-pub returns-then-k-gt-MOST_CUTS : goal.returns-then-k-gt-MOST_CUTS
-unfolding record_len
-returns-then-k-gt-MOST_CUTS c = let x = c.args in reached 0 (len_rows x.k x.q) c.if-k-gt-MOST_CUTS.true
-
-pub returns-then-q-gt-WIDEST_CUBE : goal.returns-then-q-gt-WIDEST_CUBE
-unfolding record_len
-returns-then-q-gt-WIDEST_CUBE c = let x = c.args in reached 1 (len_rows x.k x.q) (c.if-k-gt-MOST_CUTS.false, c.if-q-gt-WIDEST_CUBE.true)
-
-pub overflow_mul-result : goal.overflow_mul-result
-overflow_mul-result c = omega (arith, few c)
-
-pub overflow_add-result-2 : goal.overflow_add-result-2
+pub overflow_add-result : goal.overflow_add-result
 unfolding front_len
-overflow_add-result-2 c = omega (arith, few c)
+overflow_add-result c = let e = c.in-Some.ensures in omega (arith, cubes-few c.args.k c.args.q e.0 e.1, e.2)
 
-pub returns : goal.returns
+pub returns-in-Some : goal.returns-in-Some
+returns-in-Some c = let e = c.in-Some.ensures in rw (c.front_len.ensures, e.2) (sym (record-len c.args.k c.args.q e.0 e.1))
+
+pub returns-in-None : goal.returns-in-None
 unfolding record_len
-returns c =
-    let x = c.args in
-    rw c.front_len.ensures (reached 2 (len_rows x.k x.q) (c.if-k-gt-MOST_CUTS.false, (c.if-q-gt-WIDEST_CUBE.false, tt)))
+returns-in-None c = limited-out c.args.k c.args.q 0 _ c.in-None.ensures

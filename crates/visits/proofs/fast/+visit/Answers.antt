@@ -1,252 +1,194 @@
-use Rattle.visits.specs.Settle.{Said, settle, left_from}
-use Rattle.visits.specs.declared.allowance.Allowance.{Allowance}
+-- `visits::fast::+visit` meets its contract: see Invariants.antt.
+use Rattle.visits.specs.Settle.{Said, settle}
 use borrow.Author.Rules.{rules}
-use Prim.Native.Nat.{suc, ◌-◌, ◌/◌, ◌≤◌, ◌<◌}
+use Prim.Native.Nat.{◌/◌, ◌≤◌}
 use native.Mathlib.Nat.{pos_of_ne-zero}
 use native.Mathlib.Omega.{arith}
-use mathlib.Core.Path.{◌≡◌, refl, sym, ap, ◌∙◌}
-use mathlib.Core.List.{[]}
-use lib.ListN.{length, get_or, set, length-set}
+use mathlib.Core.Path.{◌≡◌, sym, ap, ◌∙◌}
+use lib.ListN.{length, set, length-set}
 use lib.Seq.{set-set}
 use lib.Pow.{pow_mono}
 use Rattle.model.specs.Walk.{visit as walked}
 use Rattle.model.proofs.Walking.{walk-positive}
-use Rattle.format.specs.Bytes.{code_of}
-use Rattle.visits.specs.Opening.{first_open}
-use Rattle.visits.specs.Words.{cube_of_words, row_cube, cuts_below}
-use Rattle.visits.specs.Alive.{Alive}
-use Rattle.visits.specs.Memory.{Finds, Memory}
+use Rattle.visits.specs.Words.{cube_of_words, cuts_below}
+use Rattle.visits.specs.Memory.{Memory}
 use Rattle.visits.specs.Replies.{tells}
 use Rattle.visits.proofs.Settle.{settle-none, settle-keeps}
-use Rattle.visits.proofs.Turn.{turn_end, turn-covered, turn-stop}
-use Rattle.visits.proofs.WordCubes.{words-length}
 use Rattle.visits.proofs.Meeting.{alive-fewer, alive-meets, alive-top, alive-passed, alive-none, against-fewer}
 use Rattle.visits.proofs.Paying.{covered-finds}
-use Rattle.visits.proofs.Narrowing.{Opened, opened, took-cube, took-alive, later_first, begun, survives-stops, tells-covered}
+use Rattle.visits.proofs.Narrowing.{open-inside, opened, took-cube, child-alive, agreed-alive, child-stops, child-covered, none-opens, later_first, begun, survives-stops, tells-covered}
 use Rattle.visits.proofs.fast.+visit.Goals as goal
-use Rattle.visits.proofs.fast.+visit.Goals.{then-known-ne0, else-known-ne0}
+use Rattle.visits.proofs.fast.+visit.Goals.{in-Some-known, in-None, then-is_none, else-is_none}
 
-pub returns-then-a-eq0 : goal.returns-then-a-eq0
-returns-then-a-eq0 t c = record { said = sym (settle-none _ _ c.if-a-eq0.true (walk-positive _ _)); kept = c.requires.6 }
-
-pub loop-i-init : goal.loop-i-init
-unfolding row_cube
-loop-i-init t c =
-    let p = c.requires in
-    (p.0, p.1, omega (arith, p.2, ap (λ (x : Allowance). x.left) c.spend-have.ensures, ap (λ (x : Allowance). x.spent) c.spend-have.ensures, pos_of_ne-zero c.if-a-eq0.false), search rules, c.next_open-i.ensures, refl, refl, p.4, p.5, p.6, refl)
+pub returns-then-a-eq0-clause-said : goal.returns-then-a-eq0-clause-said
+returns-then-a-eq0-clause-said t c = sym (settle-none _ _ c.if-a-eq0.true (walk-positive _ _))
 
 pub given-requires : goal.given-requires
 given-requires t c =
-    let at_open : let g = c.args in Opened c.loop-i.near (get_or g.cuts.now g.n []) c.loop-i.i c.number_in-y.result = opened _ _ _ _ c.loop-i.invariant.4 c.loop-i-test.true c.number_in-y.ensures.0 in
-    let o = at_open in
+    let o = opened _ _ _ _ _ c.loop-next.invariant.1 c.in-Some.is c.number_in-y.ensures.0 in
     (omega arith, omega arith, o.place)
 
 pub narrow-alive-requires : goal.narrow-alive-requires
 narrow-alive-requires t c =
-    let at_open : let g = c.args in Opened c.loop-i.near (get_or g.cuts.now g.n []) c.loop-i.i c.number_in-y.result = opened _ _ _ _ c.loop-i.invariant.4 c.loop-i-test.true c.number_in-y.ensures.0 in
-    let o = at_open in
-    (c.loop-i-test.true, omega (arith, o.most), omega (arith, o.least), c.loop-i.invariant.1)
+    let o = opened _ _ _ _ _ c.loop-next.invariant.1 c.in-Some.is c.number_in-y.ensures.0 in
+    (o.inside, omega (arith, o.most), omega (arith, o.least))
 
-pub returns-then-alive-eq0 : goal.returns-then-alive-eq0
-unfolding row_cube
-returns-then-alive-eq0 t c =
-    let at_open : let g = c.args in Opened c.loop-i.near (get_or g.cuts.now g.n []) c.loop-i.i c.number_in-y.result = opened _ _ _ _ c.loop-i.invariant.4 c.loop-i-test.true c.number_in-y.ensures.0 in
-    let at-child : let g = c.args in Alive g.cuts.now g.n (cube_of_words (set c.loop-i.near (c.loop-i.i / 32) c.given.result)) c.narrow-alive.result =
-    let o = at_open in
+pub returns-then-alive-eq0-clause-said : goal.returns-then-alive-eq0-clause-said
+returns-then-alive-eq0-clause-said t c =
     let g = c.args in
-    took-alive c.loop-i.near c.loop-i.i _ c.given.result c.loop-i.invariant.3 c.loop-i-test.true c.given.ensures g.cuts.now g.n g.against.now _ _
-    o.unfixed (omega (arith, o.most)) (omega (arith, o.least)) c.loop-i.invariant.7 c.loop-i.invariant.8 c.narrow-alive.ensures in
-    let whole : let g = c.args in settle g.a (walked (cuts_below g.cuts.now (suc g.n)) (cube_of_words g.piece)) ≡ left_from (walked (cuts_below g.cuts.now g.n)) (cube_of_words (get_or g.cuts.now g.n [])) c.loop-i.have (cube_of_words c.loop-i.near) = begun _ _ _ _ _ (pos_of_ne-zero c.if-a-eq0.false) c.spend-have.ensures c.requires.3 ∙ c.loop-i.invariant.6 in
-    let o = at_open in
-    let h = c.loop-i-test.true in record {
-      said = sym (whole ∙ turn-stop _ _ _ _ (words-length _ ∙ sym (words-length _)) _ c.loop-i.invariant.4 (omega (arith, words-length c.loop-i.near)) _ _ o.fixed o.turned _
-          (took-cube c.loop-i.near c.loop-i.i _ c.given.result c.loop-i.invariant.3 h c.given.ensures) _
-          (c.last.ensures ∙ ap (settle c.loop-i.have) (sym (alive-none _ _ _ _ at-child c.if-alive-eq0.true)))
-          (λ q. survives-stops _ _ (sym (ap (λ (x : Said). x.verdict) c.last.ensures) ∙ q)));
-      kept = c.loop-i.invariant.9;
-    }
+    let v = c.loop-next.invariant in
+    let o = opened _ _ _ _ _ c.loop-next.invariant.1 c.in-Some.is c.number_in-y.ensures.0 in
+    let a = child-alive _ _ _ _ v.0 o g.cuts.now g.n g.against.now _ v.3 c.requires.3 c.given.result _ c.given.ensures c.narrow-alive.ensures in
+    sym
+    ((begun _ _ _ _ _ (pos_of_ne-zero c.if-a-eq0.false) c.spend-have.ensures c.requires.1 ∙ v.2)
+    ∙ child-stops _ _ _ _ v.0 o _ _ _ c.given.ensures _ (c.last.ensures ∙ ap (settle c.loop-next.have.allowance) (sym (alive-none _ _ _ _ a c.if-alive-eq0.true)))
+    (λ q. survives-stops _ _ (sym (ap (λ (x : Said). x.verdict) c.last.ensures) ∙ q)))
 
-pub visit-v-requires : goal.visit-v-requires
-visit-v-requires t c =
-    let at_open : let g = c.args in Opened c.loop-i.near (get_or g.cuts.now g.n []) c.loop-i.i c.number_in-y.result = opened _ _ _ _ c.loop-i.invariant.4 c.loop-i-test.true c.number_in-y.ensures.0 in
-    let at-child : let g = c.args in Alive g.cuts.now g.n (cube_of_words (set c.loop-i.near (c.loop-i.i / 32) c.given.result)) c.narrow-alive.result =
-    let o = at_open in
+pub visit-reply-requires : goal.visit-reply-requires
+visit-reply-requires t c =
     let g = c.args in
-    took-alive c.loop-i.near c.loop-i.i _ c.given.result c.loop-i.invariant.3 c.loop-i-test.true c.given.ensures g.cuts.now g.n g.against.now _ _
-    o.unfixed (omega (arith, o.most)) (omega (arith, o.least)) c.loop-i.invariant.7 c.loop-i.invariant.8 c.narrow-alive.ensures in
-    let a = at-child in
+    let v = c.loop-next.invariant in
+    let o = opened _ _ _ _ _ c.loop-next.invariant.1 c.in-Some.is c.number_in-y.ensures.0 in
+    let a = child-alive _ _ _ _ v.0 o g.cuts.now g.n g.against.now _ v.3 c.requires.3 c.given.result _ c.given.ensures c.narrow-alive.ensures in
     let k = c.top-m.ensures in
     let l = alive-top _ _ _ a.0 k.2 in
-    let cuts = c.args.cuts.now in
-    let child = cube_of_words (set c.loop-i.near (c.loop-i.i / 32) c.given.result) in (
-      omega (arith, l, c.requires.0),
+    let child = cube_of_words (set c.loop-next.near (c.in-Some.i / 32) c.given.result) in (
+      omega (arith, l, c.decreases),
       (
-        omega (arith, l, c.loop-i.invariant.0),
-        c.loop-i.invariant.1,
-        c.loop-i.invariant.2,
-        alive-meets cuts _ _ child _ a k.2 k.1 l,
-        rw c.after_top.ensures (alive-fewer cuts _ _ child _ a k.2 k.1 l),
-        against-fewer cuts _ _ c.args.against.now (omega (arith, l)) c.loop-i.invariant.8,
-        c.loop-i.invariant.9,
+        omega (arith, l, c.requires.0),
+        alive-meets g.cuts.now _ _ child _ a k.2 k.1 l,
+        rw c.after_top.ensures (alive-fewer g.cuts.now _ _ child _ a k.2 k.1 l),
+        against-fewer g.cuts.now _ _ g.against.now (omega (arith, l)) c.requires.3,
+        v.4,
       ),
     )
 
-pub shape_of-slots-in_default : goal.shape_of-slots-in_default
-shape_of-slots-in_default t c =
-    let at_open : let g = c.args in Opened c.loop-i.near (get_or g.cuts.now g.n []) c.loop-i.i c.number_in-y.result = opened _ _ _ _ c.loop-i.invariant.4 c.loop-i-test.true c.number_in-y.ensures.0 in
-    let at-child : let g = c.args in Alive g.cuts.now g.n (cube_of_words (set c.loop-i.near (c.loop-i.i / 32) c.given.result)) c.narrow-alive.result =
-    let o = at_open in
+pub returns-in_default-verdict : goal.returns-in_default-verdict
+returns-in_default-verdict t c =
     let g = c.args in
-    took-alive c.loop-i.near c.loop-i.i _ c.given.result c.loop-i.invariant.3 c.loop-i-test.true c.given.ensures g.cuts.now g.n g.against.now _ _
-    o.unfixed (omega (arith, o.most)) (omega (arith, o.least)) c.loop-i.invariant.7 c.loop-i.invariant.8 c.narrow-alive.ensures in
-    let at-reply : let g = c.args in (tells c.if-known-ne0.v ≡ settle c.loop-i.have (walked (cuts_below g.cuts.now g.n) (cube_of_words (set c.loop-i.near (c.loop-i.i / 32) c.given.result)))) × Memory g.cuts.now c.if-known-ne0.slots × (length c.if-known-ne0.slots ≡ length g.slots.now) =
-    let a = at-child in
-    elim c.if-known-ne0.branch [
-      | then-known-ne0 w ↦
-          rw (w.v-is, w.slots-is) (w.pay-v.ensures _ (c.look-known.ensures (pos_of_ne-zero w.if-known-ne0.true) _ c.loop-i.invariant.9 _ a), c.loop-i.invariant.9, c.loop-i.invariant.10)
-      | else-known-ne0 w ↦
-          let k = w.top-m.ensures in
-          let l = alive-top _ _ _ a.0 k.2 in
-          rw (w.v-is, w.slots-is) (w.visit-v.ensures.said ∙ ap (settle c.loop-i.have) (sym (alive-passed _ _ _ _ _ a k.1 l)), w.visit-v.ensures.kept, omega (arith, c.loop-i.invariant.10))
+    let v = c.loop-next.invariant in
+    let o = opened _ _ _ _ _ c.loop-next.invariant.1 c.in-Some.is c.number_in-y.ensures.0 in
+    let a = child-alive _ _ _ _ v.0 o g.cuts.now g.n g.against.now _ v.3 c.requires.3 c.given.result _ c.given.ensures c.narrow-alive.ensures in
+    let r : (tells c.match-known.reply ≡ settle c.loop-next.have.allowance (walked (cuts_below g.cuts.now g.n) (cube_of_words (set c.loop-next.near (c.in-Some.i / 32) c.given.result)))) × Memory g.cuts.now c.match-known.slots =
+    elim c.match-known.branch [
+      | in-Some-known w ↦ rw (w.reply-is, w.slots-is) (w.pay-reply.ensures _ (c.look-known.ensures _ w.in-Some-known.is _ v.4 _ a), v.4)
+      | in-None w ↦
+          rw (w.reply-is, w.slots-is) (
+            w.visit-reply.ensures.said ∙ ap (settle c.loop-next.have.allowance) (sym (alive-passed _ _ _ _ _ a w.top-m.ensures.1 (alive-top _ _ _ a.0 w.top-m.ensures.2))),
+            w.visit-reply.ensures.kept,
+          )
     ] in
-    at-reply.2
-
-pub returns-in_default : goal.returns-in_default
-unfolding row_cube
-returns-in_default t c =
-    let at_open : let g = c.args in Opened c.loop-i.near (get_or g.cuts.now g.n []) c.loop-i.i c.number_in-y.result = opened _ _ _ _ c.loop-i.invariant.4 c.loop-i-test.true c.number_in-y.ensures.0 in
-    let whole : let g = c.args in settle g.a (walked (cuts_below g.cuts.now (suc g.n)) (cube_of_words g.piece)) ≡ left_from (walked (cuts_below g.cuts.now g.n)) (cube_of_words (get_or g.cuts.now g.n [])) c.loop-i.have (cube_of_words c.loop-i.near) = begun _ _ _ _ _ (pos_of_ne-zero c.if-a-eq0.false) c.spend-have.ensures c.requires.3 ∙ c.loop-i.invariant.6 in
-    let at-child : let g = c.args in Alive g.cuts.now g.n (cube_of_words (set c.loop-i.near (c.loop-i.i / 32) c.given.result)) c.narrow-alive.result =
-    let o = at_open in
-    let g = c.args in
-    took-alive c.loop-i.near c.loop-i.i _ c.given.result c.loop-i.invariant.3 c.loop-i-test.true c.given.ensures g.cuts.now g.n g.against.now _ _
-    o.unfixed (omega (arith, o.most)) (omega (arith, o.least)) c.loop-i.invariant.7 c.loop-i.invariant.8 c.narrow-alive.ensures in
-    let at-reply : let g = c.args in (tells c.if-known-ne0.v ≡ settle c.loop-i.have (walked (cuts_below g.cuts.now g.n) (cube_of_words (set c.loop-i.near (c.loop-i.i / 32) c.given.result)))) × Memory g.cuts.now c.if-known-ne0.slots × (length c.if-known-ne0.slots ≡ length g.slots.now) =
-    let a = at-child in
-    elim c.if-known-ne0.branch [
-      | then-known-ne0 w ↦
-          rw (w.v-is, w.slots-is) (w.pay-v.ensures _ (c.look-known.ensures (pos_of_ne-zero w.if-known-ne0.true) _ c.loop-i.invariant.9 _ a), c.loop-i.invariant.9, c.loop-i.invariant.10)
-      | else-known-ne0 w ↦
-          let k = w.top-m.ensures in
-          let l = alive-top _ _ _ a.0 k.2 in
-          rw (w.v-is, w.slots-is) (w.visit-v.ensures.said ∙ ap (settle c.loop-i.have) (sym (alive-passed _ _ _ _ _ a k.1 l)), w.visit-v.ensures.kept, omega (arith, c.loop-i.invariant.10))
-    ] in
-    let o = at_open in
-    let h = c.loop-i-test.true in record {
-      said = sym (whole ∙ turn-stop _ _ _ _ (words-length _ ∙ sym (words-length _)) _ c.loop-i.invariant.4 (omega (arith, words-length c.loop-i.near)) _ _ o.fixed o.turned _
-          (took-cube c.loop-i.near c.loop-i.i _ c.given.result c.loop-i.invariant.3 h c.given.ensures) _ at-reply.0 c.in_default.not-Covered);
-      kept = at-reply.1;
+    record {
+      said = sym ((begun _ _ _ _ _ (pos_of_ne-zero c.if-a-eq0.false) c.spend-have.ensures c.requires.1 ∙ v.2) ∙ child-stops _ _ _ _ v.0 o _ _ _ c.given.ensures _ r.0 c.in_default-verdict.not-Covered);
+      kept = r.1;
     }
 
-pub overflow_sub-next : goal.overflow_sub-next
-overflow_sub-next t c =
-    let at_open : let g = c.args in Opened c.loop-i.near (get_or g.cuts.now g.n []) c.loop-i.i c.number_in-y.result = opened _ _ _ _ c.loop-i.invariant.4 c.loop-i-test.true c.number_in-y.ensures.0 in
-    let at-child : let g = c.args in Alive g.cuts.now g.n (cube_of_words (set c.loop-i.near (c.loop-i.i / 32) c.given.result)) c.narrow-alive.result =
-    let o = at_open in
+pub overflow_sub-count : goal.overflow_sub-count
+overflow_sub-count t c =
     let g = c.args in
-    took-alive c.loop-i.near c.loop-i.i _ c.given.result c.loop-i.invariant.3 c.loop-i-test.true c.given.ensures g.cuts.now g.n g.against.now _ _
-    o.unfixed (omega (arith, o.most)) (omega (arith, o.least)) c.loop-i.invariant.7 c.loop-i.invariant.8 c.narrow-alive.ensures in
-    let at-reply : let g = c.args in (tells c.if-known-ne0.v ≡ settle c.loop-i.have (walked (cuts_below g.cuts.now g.n) (cube_of_words (set c.loop-i.near (c.loop-i.i / 32) c.given.result)))) × Memory g.cuts.now c.if-known-ne0.slots × (length c.if-known-ne0.slots ≡ length g.slots.now) =
-    let a = at-child in
-    elim c.if-known-ne0.branch [
-      | then-known-ne0 w ↦
-          rw (w.v-is, w.slots-is) (w.pay-v.ensures _ (c.look-known.ensures (pos_of_ne-zero w.if-known-ne0.true) _ c.loop-i.invariant.9 _ a), c.loop-i.invariant.9, c.loop-i.invariant.10)
-      | else-known-ne0 w ↦
-          let k = w.top-m.ensures in
-          let l = alive-top _ _ _ a.0 k.2 in
-          rw (w.v-is, w.slots-is) (w.visit-v.ensures.said ∙ ap (settle c.loop-i.have) (sym (alive-passed _ _ _ _ _ a k.1 l)), w.visit-v.ensures.kept, omega (arith, c.loop-i.invariant.10))
+    let v = c.loop-next.invariant in
+    let o = opened _ _ _ _ _ c.loop-next.invariant.1 c.in-Some.is c.number_in-y.ensures.0 in
+    let a = child-alive _ _ _ _ v.0 o g.cuts.now g.n g.against.now _ v.3 c.requires.3 c.given.result _ c.given.ensures c.narrow-alive.ensures in
+    let r : (tells c.match-known.reply ≡ settle c.loop-next.have.allowance (walked (cuts_below g.cuts.now g.n) (cube_of_words (set c.loop-next.near (c.in-Some.i / 32) c.given.result)))) × Memory g.cuts.now c.match-known.slots =
+    elim c.match-known.branch [
+      | in-Some-known w ↦ rw (w.reply-is, w.slots-is) (w.pay-reply.ensures _ (c.look-known.ensures _ w.in-Some-known.is _ v.4 _ a), v.4)
+      | in-None w ↦
+          rw (w.reply-is, w.slots-is) (
+            w.visit-reply.ensures.said ∙ ap (settle c.loop-next.have.allowance) (sym (alive-passed _ _ _ _ _ a w.top-m.ensures.1 (alive-top _ _ _ a.0 w.top-m.ensures.2))),
+            w.visit-reply.ensures.kept,
+          )
     ] in
-    let at-covered : let g = c.args in (c.loop-i.have.spent ≤ c.if-known-ne0.v.allowance.spent) × Finds (c.if-known-ne0.v.allowance.spent - c.loop-i.have.spent) (walked (cuts_below g.cuts.now g.n) (cube_of_words (set c.loop-i.near (c.loop-i.i / 32) c.given.result))) = covered-finds _ _ _ (sym at-reply.0 ∙ tells-covered c.if-known-ne0.v c.in-Covered.is) in
-    at-covered.0
+    (covered-finds _ _ _ (sym r.0 ∙ tells-covered c.match-known.reply c.in-Covered.is)).0
+
+pub of-have-requires : goal.of-have-requires
+of-have-requires t c =
+    let g = c.args in
+    let v = c.loop-next.invariant in
+    let o = opened _ _ _ _ _ c.loop-next.invariant.1 c.in-Some.is c.number_in-y.ensures.0 in
+    let a = child-alive _ _ _ _ v.0 o g.cuts.now g.n g.against.now _ v.3 c.requires.3 c.given.result _ c.given.ensures c.narrow-alive.ensures in
+    let r : (tells c.match-known.reply ≡ settle c.loop-next.have.allowance (walked (cuts_below g.cuts.now g.n) (cube_of_words (set c.loop-next.near (c.in-Some.i / 32) c.given.result)))) × Memory g.cuts.now c.match-known.slots =
+    elim c.match-known.branch [
+      | in-Some-known w ↦ rw (w.reply-is, w.slots-is) (w.pay-reply.ensures _ (c.look-known.ensures _ w.in-Some-known.is _ v.4 _ a), v.4)
+      | in-None w ↦
+          rw (w.reply-is, w.slots-is) (
+            w.visit-reply.ensures.said ∙ ap (settle c.loop-next.have.allowance) (sym (alive-passed _ _ _ _ _ a w.top-m.ensures.1 (alive-top _ _ _ a.0 w.top-m.ensures.2))),
+            w.visit-reply.ensures.kept,
+          )
+    ] in
+    omega (arith, settle-keeps _ _ _ r.0, c.loop-next.have.counted)
 
 pub keep-requires : goal.keep-requires
 keep-requires t c =
-    let at_open : let g = c.args in Opened c.loop-i.near (get_or g.cuts.now g.n []) c.loop-i.i c.number_in-y.result = opened _ _ _ _ c.loop-i.invariant.4 c.loop-i-test.true c.number_in-y.ensures.0 in
-    let at-child : let g = c.args in Alive g.cuts.now g.n (cube_of_words (set c.loop-i.near (c.loop-i.i / 32) c.given.result)) c.narrow-alive.result =
-    let o = at_open in
     let g = c.args in
-    took-alive c.loop-i.near c.loop-i.i _ c.given.result c.loop-i.invariant.3 c.loop-i-test.true c.given.ensures g.cuts.now g.n g.against.now _ _
-    o.unfixed (omega (arith, o.most)) (omega (arith, o.least)) c.loop-i.invariant.7 c.loop-i.invariant.8 c.narrow-alive.ensures in
-    let g = c.args in
-    let b : g.n ≤ length g.cuts.now = omega (arith, c.loop-i.invariant.0) in
-    omega (arith, pow_mono b, at-child.0)
+    let v = c.loop-next.invariant in
+    let o = opened _ _ _ _ _ c.loop-next.invariant.1 c.in-Some.is c.number_in-y.ensures.0 in
+    let a = child-alive _ _ _ _ v.0 o g.cuts.now g.n g.against.now _ v.3 c.requires.3 c.given.result _ c.given.ensures c.narrow-alive.ensures in
+    let b : g.n ≤ length g.cuts.now = omega (arith, c.requires.0) in
+    omega (arith, pow_mono b, a.0)
 
-pub given-requires-in-loop-i : goal.given-requires-in-loop-i
-given-requires-in-loop-i t c =
-    let at_open : let g = c.args in Opened c.loop-i.near (get_or g.cuts.now g.n []) c.loop-i.i c.number_in-y.result = opened _ _ _ _ c.loop-i.invariant.4 c.loop-i-test.true c.number_in-y.ensures.0 in
-    let o = at_open in
-    (omega arith, omega (arith, o.most), o.place)
+pub given-requires-in-Some : goal.given-requires-in-Some
+given-requires-in-Some t c =
+    let o = opened _ _ _ _ _ c.loop-next.invariant.1 c.in-Some.is c.number_in-y.ensures.0 in
+    (omega arith, omega arith, o.place)
 
 pub narrow-met-requires : goal.narrow-met-requires
 narrow-met-requires t c =
-    let at_open : let g = c.args in Opened c.loop-i.near (get_or g.cuts.now g.n []) c.loop-i.i c.number_in-y.result = opened _ _ _ _ c.loop-i.invariant.4 c.loop-i-test.true c.number_in-y.ensures.0 in
-    let o = at_open in
-    (c.loop-i-test.true, o.least, o.most, c.loop-i.invariant.1)
+    let o = opened _ _ _ _ _ c.loop-next.invariant.1 c.in-Some.is c.number_in-y.ensures.0 in
+    (o.inside, o.least, o.most)
 
-pub next_open-i-requires-in-loop-i : goal.next_open-i-requires-in-loop-i
-next_open-i-requires-in-loop-i t c =
-    let at_open : let g = c.args in Opened c.loop-i.near (get_or g.cuts.now g.n []) c.loop-i.i c.number_in-y.result = opened _ _ _ _ c.loop-i.invariant.4 c.loop-i-test.true c.number_in-y.ensures.0 in
-    let at-agreed : cube_of_words (set (set c.loop-i.near (c.loop-i.i / 32) c.given.result) (c.loop-i.i / 32) c.given-in-loop-i.result) ≡ set (cube_of_words c.loop-i.near) c.loop-i.i (code_of c.number_in-y.result) =
-    ap cube_of_words (set-set c.loop-i.near (c.loop-i.i / 32) c.given.result c.given-in-loop-i.result)
-    ∙ took-cube c.loop-i.near c.loop-i.i _ c.given-in-loop-i.result c.loop-i.invariant.3 c.loop-i-test.true c.given-in-loop-i.ensures in
-    let at-later : let g = c.args in c.loop-i.i < first_open (cube_of_words (set (set c.loop-i.near (c.loop-i.i / 32) c.given.result) (c.loop-i.i / 32) c.given-in-loop-i.result)) (cube_of_words (get_or g.cuts.now g.n [])) = later_first _ _ _ _ _ c.loop-i.invariant.4 c.loop-i-test.true at_open.fixed at-agreed in
-    (omega (arith, c.loop-i-test.true), omega (arith, at-later))
+pub loop-next-smaller : goal.loop-next-smaller
+loop-next-smaller t c =
+    let v = c.loop-next.invariant in
+    let o = opened _ _ _ _ _ c.loop-next.invariant.1 c.in-Some.is c.number_in-y.ensures.0 in
+    let p = ap cube_of_words (set-set c.loop-next.near (c.in-Some.i / 32) c.given.result c.given-in-Some.result) ∙ took-cube c.loop-next.near c.in-Some.i _ c.given-in-Some.result v.0 o.inside c.given-in-Some.ensures in
+    omega (arith, o.first, o.inside, (later_first _ _ _ _ _ o p).0)
 
-pub loop-i-smaller : goal.loop-i-smaller
-loop-i-smaller t c =
-    let at_open : let g = c.args in Opened c.loop-i.near (get_or g.cuts.now g.n []) c.loop-i.i c.number_in-y.result = opened _ _ _ _ c.loop-i.invariant.4 c.loop-i-test.true c.number_in-y.ensures.0 in
-    let at-agreed : cube_of_words (set (set c.loop-i.near (c.loop-i.i / 32) c.given.result) (c.loop-i.i / 32) c.given-in-loop-i.result) ≡ set (cube_of_words c.loop-i.near) c.loop-i.i (code_of c.number_in-y.result) =
-    ap cube_of_words (set-set c.loop-i.near (c.loop-i.i / 32) c.given.result c.given-in-loop-i.result)
-    ∙ took-cube c.loop-i.near c.loop-i.i _ c.given-in-loop-i.result c.loop-i.invariant.3 c.loop-i-test.true c.given-in-loop-i.ensures in
-    let at-later : let g = c.args in c.loop-i.i < first_open (cube_of_words (set (set c.loop-i.near (c.loop-i.i / 32) c.given.result) (c.loop-i.i / 32) c.given-in-loop-i.result)) (cube_of_words (get_or g.cuts.now g.n [])) = later_first _ _ _ _ _ c.loop-i.invariant.4 c.loop-i-test.true at_open.fixed at-agreed in
-    omega (arith, c.next_open-i-in-loop-i.ensures, at-later, c.loop-i-test.true)
-
-pub loop-i-preserved : goal.loop-i-preserved
-loop-i-preserved t c =
-    let at_open : let g = c.args in Opened c.loop-i.near (get_or g.cuts.now g.n []) c.loop-i.i c.number_in-y.result = opened _ _ _ _ c.loop-i.invariant.4 c.loop-i-test.true c.number_in-y.ensures.0 in
-    let at-child : let g = c.args in Alive g.cuts.now g.n (cube_of_words (set c.loop-i.near (c.loop-i.i / 32) c.given.result)) c.narrow-alive.result =
-    let o = at_open in
+pub loop-next-preserved : goal.loop-next-preserved
+loop-next-preserved t c =
     let g = c.args in
-    took-alive c.loop-i.near c.loop-i.i _ c.given.result c.loop-i.invariant.3 c.loop-i-test.true c.given.ensures g.cuts.now g.n g.against.now _ _
-    o.unfixed (omega (arith, o.most)) (omega (arith, o.least)) c.loop-i.invariant.7 c.loop-i.invariant.8 c.narrow-alive.ensures in
-    let at-reply : let g = c.args in (tells c.if-known-ne0.v ≡ settle c.loop-i.have (walked (cuts_below g.cuts.now g.n) (cube_of_words (set c.loop-i.near (c.loop-i.i / 32) c.given.result)))) × Memory g.cuts.now c.if-known-ne0.slots × (length c.if-known-ne0.slots ≡ length g.slots.now) =
-    let a = at-child in
-    elim c.if-known-ne0.branch [
-      | then-known-ne0 w ↦
-          rw (w.v-is, w.slots-is) (w.pay-v.ensures _ (c.look-known.ensures (pos_of_ne-zero w.if-known-ne0.true) _ c.loop-i.invariant.9 _ a), c.loop-i.invariant.9, c.loop-i.invariant.10)
-      | else-known-ne0 w ↦
-          let k = w.top-m.ensures in
-          let l = alive-top _ _ _ a.0 k.2 in
-          rw (w.v-is, w.slots-is) (w.visit-v.ensures.said ∙ ap (settle c.loop-i.have) (sym (alive-passed _ _ _ _ _ a k.1 l)), w.visit-v.ensures.kept, omega (arith, c.loop-i.invariant.10))
+    let v = c.loop-next.invariant in
+    let o = opened _ _ _ _ _ c.loop-next.invariant.1 c.in-Some.is c.number_in-y.ensures.0 in
+    let a = child-alive _ _ _ _ v.0 o g.cuts.now g.n g.against.now _ v.3 c.requires.3 c.given.result _ c.given.ensures c.narrow-alive.ensures in
+    let r : (tells c.match-known.reply ≡ settle c.loop-next.have.allowance (walked (cuts_below g.cuts.now g.n) (cube_of_words (set c.loop-next.near (c.in-Some.i / 32) c.given.result)))) × Memory g.cuts.now c.match-known.slots =
+    elim c.match-known.branch [
+      | in-Some-known w ↦ rw (w.reply-is, w.slots-is) (w.pay-reply.ensures _ (c.look-known.ensures _ w.in-Some-known.is _ v.4 _ a), v.4)
+      | in-None w ↦
+          rw (w.reply-is, w.slots-is) (
+            w.visit-reply.ensures.said ∙ ap (settle c.loop-next.have.allowance) (sym (alive-passed _ _ _ _ _ a w.top-m.ensures.1 (alive-top _ _ _ a.0 w.top-m.ensures.2))),
+            w.visit-reply.ensures.kept,
+          )
     ] in
-    let at-covered : let g = c.args in (c.loop-i.have.spent ≤ c.if-known-ne0.v.allowance.spent) × Finds (c.if-known-ne0.v.allowance.spent - c.loop-i.have.spent) (walked (cuts_below g.cuts.now g.n) (cube_of_words (set c.loop-i.near (c.loop-i.i / 32) c.given.result))) = covered-finds _ _ _ (sym at-reply.0 ∙ tells-covered c.if-known-ne0.v c.in-Covered.is) in
-    let at-agreed : cube_of_words (set (set c.loop-i.near (c.loop-i.i / 32) c.given.result) (c.loop-i.i / 32) c.given-in-loop-i.result) ≡ set (cube_of_words c.loop-i.near) c.loop-i.i (code_of c.number_in-y.result) =
-    ap cube_of_words (set-set c.loop-i.near (c.loop-i.i / 32) c.given.result c.given-in-loop-i.result)
-    ∙ took-cube c.loop-i.near c.loop-i.i _ c.given-in-loop-i.result c.loop-i.invariant.3 c.loop-i-test.true c.given-in-loop-i.ensures in
-    let o = at_open in
-    let h = c.loop-i-test.true in
-    let v = c.loop-i.invariant in
-    let g = c.args in
-    let r = at-reply in
-    let a = at-child in (
-      v.0,
-      v.1,
-      omega (arith, v.2, settle-keeps _ _ _ r.0),
-      length-set (set c.loop-i.near (c.loop-i.i / 32) c.given.result) (c.loop-i.i / 32) c.given-in-loop-i.result ∙ length-set c.loop-i.near (c.loop-i.i / 32) c.given.result ∙ v.3,
-      c.next_open-i-in-loop-i.ensures,
-      v.5,
-      v.6
-          ∙ turn-covered _ _ _ _ (words-length _ ∙ sym (words-length _)) _ v.4 (omega (arith, words-length c.loop-i.near)) _ _ o.fixed o.turned _
-          (took-cube c.loop-i.near c.loop-i.i _ c.given.result v.3 h c.given.ensures) _ r.0 c.in-Covered.is ∙ ap (left_from _ _ _) (sym at-agreed),
-      rw (set-set c.loop-i.near (c.loop-i.i / 32) c.given.result c.given-in-loop-i.result)
-          (took-alive c.loop-i.near c.loop-i.i _ c.given-in-loop-i.result v.3 h c.given-in-loop-i.ensures _ _ g.against.now _ _ o.unfixed o.least o.most v.7 v.8 c.narrow-met.ensures),
-      v.8,
-      c.keep.ensures r.1 _ a at-covered.1,
-      omega (arith, r.2),
+    let p = ap cube_of_words (set-set c.loop-next.near (c.in-Some.i / 32) c.given.result c.given-in-Some.result) ∙ took-cube c.loop-next.near c.in-Some.i _ c.given-in-Some.result v.0 o.inside c.given-in-Some.ensures in
+    let b = covered-finds _ _ _ (sym r.0 ∙ tells-covered c.match-known.reply c.in-Covered.is) in (
+      length-set (set c.loop-next.near (c.in-Some.i / 32) c.given.result) (c.in-Some.i / 32) c.given-in-Some.result ∙ length-set c.loop-next.near (c.in-Some.i / 32) c.given.result ∙ v.0,
+      c.next_open-next-in-Some.ensures.first,
+      rw c.of-have.ensures (v.2 ∙ child-covered _ _ _ _ v.0 o _ _ _ c.given.ensures _ r.0 c.in-Covered.is _ p),
+      rw (set-set c.loop-next.near (c.in-Some.i / 32) c.given.result c.given-in-Some.result)
+          (agreed-alive _ _ _ _ v.0 o g.cuts.now g.n g.against.now _ v.3 c.requires.3 c.given-in-Some.result _ c.given-in-Some.ensures c.narrow-met.ensures),
+      elim c.if-is_none.branch [ then-is_none w ↦ rw w.slots-is (w.keep.ensures r.1 _ a b.1) | else-is_none w ↦ rw w.slots-is r.1 ],
     )
 
-pub returns : goal.returns
-unfolding row_cube
-returns t c =
-    let whole : let g = c.args in settle g.a (walked (cuts_below g.cuts.now (suc g.n)) (cube_of_words g.piece)) ≡ left_from (walked (cuts_below g.cuts.now g.n)) (cube_of_words (get_or g.cuts.now g.n [])) c.loop-i.have (cube_of_words c.loop-i.near) = begun _ _ _ _ _ (pos_of_ne-zero c.if-a-eq0.false) c.spend-have.ensures c.requires.3 ∙ c.loop-i.invariant.6 in
-    record { said = sym (whole ∙ turn_end _ _ _ _ (words-length _ ∙ sym (words-length _)) (omega (arith, words-length c.loop-i.near, c.loop-i-test.false, c.loop-i.invariant.4))); kept = c.loop-i.invariant.9 }
+pub returns-clause-said : goal.returns-clause-said
+returns-clause-said t c =
+    let v = c.loop-next.invariant in
+    sym ((begun _ _ _ _ _ (pos_of_ne-zero c.if-a-eq0.false) c.spend-have.ensures c.requires.1 ∙ v.2) ∙ none-opens _ _ _ _ _ c.loop-next.invariant.1 (search rules))
+
+pub next_open-next-requires-in-Some : goal.next_open-next-requires-in-Some
+next_open-next-requires-in-Some t c =
+    let v = c.loop-next.invariant in
+    let o = opened _ _ _ _ _ c.loop-next.invariant.1 c.in-Some.is c.number_in-y.ensures.0 in
+    let p = ap cube_of_words (set-set c.loop-next.near (c.in-Some.i / 32) c.given.result c.given-in-Some.result) ∙ took-cube c.loop-next.near c.in-Some.i _ c.given-in-Some.result v.0 o.inside c.given-in-Some.ensures in
+    let l = later_first _ _ _ _ _ o p in
+    (l.1, l.2)
+
+pub number_in-y-requires : goal.number_in-y-requires
+number_in-y-requires t c = open-inside _ _ _ _ c.loop-next.invariant.1 c.in-Some.is
+
+pub bounds-near-w : goal.bounds-near-w
+bounds-near-w t c = omega (arith, open-inside _ _ _ _ c.loop-next.invariant.1 c.in-Some.is)
+
+pub bounds-near-w-in-Some : goal.bounds-near-w-in-Some
+bounds-near-w-in-Some t c = omega (arith, open-inside _ _ _ _ c.loop-next.invariant.1 c.in-Some.is)
+
+pub bounds-near-w-in-Some-2 : goal.bounds-near-w-in-Some-2
+bounds-near-w-in-Some-2 t c = omega (arith, open-inside _ _ _ _ c.loop-next.invariant.1 c.in-Some.is)

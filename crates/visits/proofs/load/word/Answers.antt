@@ -1,34 +1,16 @@
-use lib.Pow.{pow_mono}
-use Rattle.visits.proofs.Carrying.{holds-none, holds_more}
-use Rattle.visits.specs.Loading.{padded, HoldsBytes}
-use lib.ListN.{drop}
-use mathlib.Core.Path.{◌≡◌, subst}
+-- `visits::load::word` meets its contract.
+use Rattle.visits.proofs.Carrying.{be-holds}
+use lib.Seq.{get_or-take, get_or-drop}
+use lib.ListN.{drop, get_or}
 use native.Mathlib.Omega.{arith}
-use Prim.Native.Nat.{◌*◌, ◌≤◌}
+use mathlib.Core.Path.{◌≡◌}
+use Prim.Native.Nat.{ℕ, ◌+◌, ◌-◌, ◌<◌}
 use Rattle.visits.proofs.load.word.Goals as goal
-
-pub loop-j-init : goal.loop-j-init
-loop-j-init c = let g = c.args in (omega arith, omega arith, holds-none (padded g.q (drop g.at g.s.now)) g.b)
-
-pub overflow_mul-x : goal.overflow_mul-x
-overflow_mul-x c =
-    let j = c.loop-j.j in
-    let e : 8 * j ≤ 56 = omega (arith, c.loop-j-test.true) in
-    omega (arith, pow_mono e, c.loop-j.invariant.2.0)
-
-pub overflow_add-x : goal.overflow_add-x
-overflow_add-x c =
-    let j = c.loop-j.j in
-    let e : 8 * j ≤ 56 = omega (arith, c.loop-j-test.true) in
-    omega (arith, pow_mono e, c.loop-j.invariant.2.0, c.byte.ensures.1)
-
-pub loop-j-preserved : goal.loop-j-preserved
-loop-j-preserved c =
-    let g = c.args in
-    (omega arith, c.loop-j.invariant.1, holds_more (padded g.q (drop g.at g.s.now)) c.loop-j.j g.b c.loop-j.x c.byte.result c.byte.ensures.0 c.byte.ensures.1 c.loop-j.invariant.2)
 
 pub returns : goal.returns
 returns c =
     let g = c.args in
-    let e : c.loop-j.j ≡ 8 = omega (arith, c.loop-j-test.false, c.loop-j.invariant.0) in
-    subst (λ n. HoldsBytes (padded g.q (drop g.at g.s.now)) n g.b c.loop-j.x) e c.loop-j.invariant.2
+    let e : g.b + 8 - g.b ≡ 8 = omega arith in
+    let there : (j : ℕ) → j < 8 → get_or c.copy_from_slice.new.self j 0 ≡ get_or g.bytes.now (g.b + j) 0 =
+    λ j h. rw (c.copy_from_slice.ensures.after, e, get_or-take 8 (drop g.b g.bytes.now) j 0 h, get_or-drop) in
+    rw c.from_be_bytes.ensures (be-holds g.bytes.now c.copy_from_slice.new.self g.b there c.fits-bytes)

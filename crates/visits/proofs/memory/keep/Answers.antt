@@ -5,10 +5,7 @@ use Rattle.visits.proofs.memory.keep.Goals as goal
 
 pub returns-then-e-slots : goal.returns-then-e-slots
 returns-then-e-slots c =
-    keeps-right c.args.cuts.now c.args.slots.now c.args.near.now _ _ c.args.e c.args.alive c.args.count (search rules) c.common-m.ensures c.slot.ensures
+    keeps-right c.args.cuts.now c.args.slots.now c.args.near.now _ _ c.args.e c.args.alive c.args.count (search rules) c.common.ensures c.new.ensures
 
 pub returns-else-e-slots : goal.returns-else-e-slots
 returns-else-e-slots c = λ m n a f. m
-
-pub returns-else-known-eq0 : goal.returns-else-known-eq0
-returns-else-known-eq0 c = λ m n a f. m

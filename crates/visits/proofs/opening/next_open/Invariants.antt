@@ -1,13 +1,8 @@
 -- `visits::opening::next_open` meets its contract. The loop's invariant: no byte before b has a place that opens.
-use Prim.Native.Nat.{◌*◌, ◌-◌, ◌≤◌}
-use mathlib.Core.Path.{◌≡◌}
-use lib.ListN.{length}
+use Prim.Native.Nat.{◌*◌, ◌≤◌}
 use Rattle.format.specs.Bytes.{codes}
 use Rattle.visits.specs.Opening.{first_open}
 use Rattle.visits.proofs.opening.next_open.Given as goal
 
 abbrev pub invariant-loop-b : goal.invariant-loop-b
-invariant-loop-b l = (length l.near ≡ length l.cut) × (length l.near ≤ 80) × (4 * l.b ≤ first_open (codes l.near) (codes l.cut)) × (l.b ≤ 80)
-
-abbrev pub decreases-loop-b : goal.decreases-loop-b
-decreases-loop-b l = length l.near - l.b
+invariant-loop-b l = 4 * l.b ≤ first_open (codes l.near) (codes l.cut)

@@ -1,33 +1,40 @@
--- `visits::walk::possible` meets its contract: each return is a row of its table.
-use native.Mathlib.Nat.{mul-le-mul}
-use native.Mathlib.Omega.{arith}
-use Rattle.format.proofs.Reached.{reached}
+-- `visits::walk::possible` meets its contract.
 use Rattle.visits.specs.Walked.{possible}
+use Rattle.visits.proofs.Walked.{unfit, fits-possible}
+use mathlib.Core.Bool.{false}
+use mathlib.Core.Path.{◌≡◌}
+use lib.ListN.{length}
+use Prim.Native.Nat.{◌+◌, ◌*◌, ◌^◌, ◌≤◌, ◌<◌}
+use native.Mathlib.Omega.{arith}
+use borrow.Author.Rules.{rules}
 use Rattle.visits.proofs.walk.possible.Goals as goal
 
 pub returns-then-q-gt80 : goal.returns-then-q-gt80
-unfolding possible
-returns-then-q-gt80 c = reached 0 _ (omega arith)
+returns-then-q-gt80 c = unfit _ _ _ _ _ (λ f. omega (arith, f.0))
 
 pub returns-then-left-gt65 : goal.returns-then-left-gt65
-unfolding possible
-returns-then-left-gt65 c = reached 1 _ (omega arith)
+returns-then-left-gt65 c = unfit _ _ _ _ _ (λ f. omega (arith, f.2))
 
-pub returns-then-n-at : goal.returns-then-n-at
-unfolding possible
-returns-then-n-at c = reached 2 _ (omega arith)
+pub returns-in_err-checked_add : goal.returns-in_err-checked_add
+returns-in_err-checked_add c =
+    let g = c.args in
+    let over : 2 ^ 32 ≤ g.a.left + g.a.spent = search rules in
+    let none : possible (length g.s.now) g.q g.at g.left g.a ≡ false = unfit _ _ _ _ _ (λ f. omega (arith, over, f.3)) in
+    search (rules, none)
 
-pub overflow_mul-left : goal.overflow_mul-left
-overflow_mul-left c = record { fits = omega (arith, mul-le-mul {n₂ = 65} {m₂ = 80} c.if-left-gt65.false c.if-q-gt80.false) }
+pub returns-in_err-new : goal.returns-in_err-new
+returns-in_err-new c =
+    let g = c.args in
+    let short : length g.s.now < g.at + g.left * g.q = search rules in
+    let none : possible (length g.s.now) g.q g.at g.left g.a ≡ false = unfit _ _ _ _ _ (λ f. omega (arith, short, f.1)) in
+    search (rules, none)
 
-pub returns-then-n-at-2 : goal.returns-then-n-at-2
-unfolding possible
-returns-then-n-at-2 c = reached 2 _ (omega arith)
-
-pub returns-then-a : goal.returns-then-a
-unfolding possible
-returns-then-a c = reached 3 _ (omega arith)
+pub of-requires : goal.of-requires
+of-requires c = search rules
 
 pub returns : goal.returns
-unfolding possible
-returns c = reached 4 _ (omega arith)
+returns c =
+    let g = c.args in
+    let fits : g.a.left + g.a.spent < 2 ^ 32 = search rules in
+    let row = c.in_ok-new.ensures in
+    (fits-possible _ _ _ _ _ (c.if-q-gt80.false, row.within, c.if-left-gt65.false, fits), row, c.of.ensures)

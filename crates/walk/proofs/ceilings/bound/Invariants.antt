@@ -1,17 +1,9 @@
--- `walk::ceilings::bound` meets its contract. The loop's invariant: t is the tally of the cuts from `end` on.
-use Prim.Native.Nat.{◌+◌, ◌-◌, ◌*◌, ◌≤◌}
+-- `walk::ceilings::bound` meets its contract. The loop's invariant: the cuts behind those that are left are counted.
 use mathlib.Core.Path.{◌≡◌}
-use lib.ListN.{length}
-use Rattle.format.specs.Limits.{widest_cube, most_cuts}
-use Rattle.cube.specs.Whole.{wholes_at}
-use Rattle.walk.specs.Tally.{Tallied}
+use Rattle.std.specs.Iterator.Adapters.{rev_source}
+use Rattle.cube.specs.Row.{slices_of}
+use Rattle.walk.proofs.Tallies.{Counted}
 use Rattle.walk.proofs.ceilings.bound.Given as goal
 
-abbrev pub invariant-loop-k : goal.invariant-loop-k
-invariant-loop-k l =
-    (l.k ≤ l.left) × (length l.base ≤ widest_cube) × (l.at + l.k * length l.base ≡ l.end) × (l.end ≤ length l.s) × (l.t.met + l.k ≤ most_cuts)
-    × (length l.t.kept ≡ widest_cube)
-    × Tallied l.base (wholes_at (length l.base) l.s l.end (l.left - l.k)) l.t
-
-abbrev pub decreases-loop-k : goal.decreases-loop-k
-decreases-loop-k l = l.k
+abbrev pub invariant-loop-cut : goal.invariant-loop-cut
+invariant-loop-cut l = (l.tally.base ≡ l.d.base) × Counted l.d.base.now (slices_of l.d.cuts) (slices_of (rev_source l.cut-iterator)) l.tally

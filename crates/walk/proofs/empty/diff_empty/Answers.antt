@@ -1,65 +1,40 @@
 -- `walk::empty::diff_empty` meets its contract.
 use native.Mathlib.Omega.{arith}
-use mathlib.Core.Bool.{true}
-use mathlib.Core.Path.{refl}
+use mathlib.Core.Path.{refl, sym}
 use lib.ListN.{length}
-use borrow.Author.Rules.{rules}
 use Rattle.model.specs.Walk.{walk}
+use Rattle.answer.specs.Answer.{accepted}
 use Rattle.format.proofs.Lending.{one-refused, one_lent, silent-answer, silent-bytes, told-answer, told-bytes}
-use Rattle.format.proofs.Recording.{record_of}
 use Rattle.format.specs.Calls.{diff_empty}
 use Rattle.format.specs.Told.{silent, walking}
 use Rattle.format.specs.Records.{difference_at}
-use Rattle.region.proofs.Fronts.{front-stands}
 use Rattle.walk.proofs.Emptied.{diff-room, diff-told}
 use Rattle.walk.proofs.empty.diff_empty.Goals as goal
 
-pub returns-then-refusal-ne0 : goal.returns-then-refusal-ne0
+pub returns-in-Err : goal.returns-in-Err
 unfolding diff_empty
-returns-then-refusal-ne0 c =
+returns-in-Err c =
     let x = c.args in
     let k = walking x.w x.allowance (length x.out.now) 0 (walk (difference_at x.w x.s.now 0)) in
-    record { answer = silent-answer refl (one-refused x.w x.s.now _ c.one_refusal-refusal.ensures silent k c.if-refusal-ne0.true); bytes = silent-bytes (one-refused x.w x.s.now _ c.one_refusal-refusal.ensures silent k c.if-refusal-ne0.true) }
+    let is = one-refused x.w x.s.now _ c.in-Err.ensures.0 silent k c.in-Err.ensures.1 in
+    record { answer = silent-answer refl is; bytes = silent-bytes is }
 
 pub returns-then-out-header_len : goal.returns-then-out-header_len
 returns-then-out-header_len c =
-    let one-refusal = c.one_refusal-refusal in
     let x = c.args in
-    record { answer = silent-answer c.refused.ensures (diff-room x.w x.s.now x.allowance (length x.out.now) _ one-refusal.ensures c.if-refusal-ne0.false (omega (arith, c.if-out-header_len.true, c.header_len.ensures))); bytes = silent-bytes (diff-room x.w x.s.now x.allowance (length x.out.now) _ one-refusal.ensures c.if-refusal-ne0.false (omega (arith, c.if-out-header_len.true, c.header_len.ensures))) }
-
-pub walk_record-outcome-requires : goal.walk_record-outcome-requires
-walk_record-outcome-requires c =
-    let if1 = c.if-refusal-ne0 in
-    let one-refusal = c.one_refusal-refusal in
-    let x = c.args in
-    let l = one_lent x.w x.s.now _ one-refusal.ensures if1.false in
-    rw c.cube_len.ensures
-    (omega (arith, l.narrow), front-stands (record_of true x.w 0 x.s.now 0 l.sound) c.front_at.ensures.0, search rules)
+    let is = diff-room x.w x.s.now x.allowance (length x.out.now) c.in-Ok.ensures.0 (omega (arith, c.if-out-header_len.true, c.header_len.ensures)) in
+    record { answer = silent-answer c.into.ensures is; bytes = silent-bytes is }
 
 pub tell-requires : goal.tell-requires
 tell-requires c =
-    let if2 = c.if-out-header_len in
-    let header-len = c.header_len in
-    let if1 = c.if-refusal-ne0 in
-    let one-refusal = c.one_refusal-refusal in
-    let x = c.args in
-    let l = one_lent x.w x.s.now _ one-refusal.ensures if1.false in
-    (l.narrow, omega (arith, if2.false, header-len.ensures))
+    let lent = c.in-Ok.ensures in
+    ((one_lent c.args.w c.args.s.now accepted (sym lent.0) refl).narrow, omega (arith, c.if-out-header_len.false, c.header_len.ensures))
 
 pub returns : goal.returns
 returns c =
-    let tell = c.tell in
-    let v = c.walk_record-outcome in
-    let Front-at = c.front_at in
-    let cube-len = c.cube_len in
-    let if2 = c.if-out-header_len in
-    let header-len = c.header_len in
-    let if1 = c.if-refusal-ne0 in
-    let one-refusal = c.one_refusal-refusal in
     let x = c.args in
-    record {
-      answer = told-answer (diff-told x.w x.s.now x.allowance (length x.out.now) _ one-refusal.ensures if1.false
-          (omega (arith, if2.false, header-len.ensures)) Front-at.ensures.0 v.result (rw cube-len.ensures at v.ensures)) tell.ensures.answer;
-      bytes = told-bytes x.out.now (diff-told x.w x.s.now x.allowance (length x.out.now) _ one-refusal.ensures if1.false
-          (omega (arith, if2.false, header-len.ensures)) Front-at.ensures.0 v.result (rw cube-len.ensures at v.ensures)) tell.ensures.bytes;
-    }
+    let v = c.walk_record-outcome in
+    let lent = c.in-Ok.ensures in
+    let is = diff-told x.w x.s.now x.allowance (length x.out.now) lent.0 (omega (arith, c.if-out-header_len.false, c.header_len.ensures)) lent.1
+    v.result c.covered.result c.covered.ensures (rw (lent.1.size, c.fresh.ensures.0) at v.ensures) in
+    record { answer = told-answer is c.tell.ensures.answer; bytes = told-bytes x.out.now is c.tell.ensures.bytes }

@@ -1,71 +1,42 @@
 -- `walk::inclusion::diff_in` meets its contract.
 use native.Mathlib.Omega.{arith}
-use mathlib.Core.Bool.{true}
-use mathlib.Core.Path.{refl}
+use mathlib.Core.Path.{refl, sym}
 use lib.ListN.{length}
-use borrow.Author.Rules.{rules}
 use Rattle.model.specs.Walk.{walk_inclusion, walks_less, stop}
+use Rattle.answer.specs.Answer.{accepted}
 use Rattle.format.proofs.Lending.{two-refused, two_lent, silent-answer, silent-bytes, told-answer, told-bytes}
-use Rattle.format.proofs.Recording.{record_of}
 use Rattle.format.specs.Calls.{diff_in}
 use Rattle.format.specs.Told.{walking}
 use Rattle.format.specs.Records.{difference_at}
-use Rattle.region.proofs.Fronts.{front-stands}
 use Rattle.walk.proofs.Included.{in-room, in_told}
 use Rattle.walk.proofs.inclusion.diff_in.Goals as goal
 
-pub returns-then-refusal-ne0 : goal.returns-then-refusal-ne0
+pub returns-in-Err : goal.returns-in-Err
 unfolding diff_in
-returns-then-refusal-ne0 c =
+returns-in-Err c =
     let x = c.args in
     let a = difference_at x.w x.s.now 0 in
     let b = difference_at x.w x.t.now 0 in
     let k = walking x.w x.allowance (length x.out.now) (stop x.allowance (walks_less a b)) (walk_inclusion a b) in
-    record { answer = silent-answer refl (two-refused x.w x.s.now x.t.now _ c.two_refusal-refusal.ensures k c.if-refusal-ne0.true); bytes = silent-bytes (two-refused x.w x.s.now x.t.now _ c.two_refusal-refusal.ensures k c.if-refusal-ne0.true) }
+    let is = two-refused x.w x.s.now x.t.now _ c.in-Err.ensures.0 k c.in-Err.ensures.1 in
+    record { answer = silent-answer refl is; bytes = silent-bytes is }
 
 pub returns-then-out-header_len : goal.returns-then-out-header_len
 returns-then-out-header_len c =
-    let two-refusal = c.two_refusal-refusal in
     let x = c.args in
-    record { answer = silent-answer c.refused.ensures (in-room x.w x.s.now x.t.now x.allowance (length x.out.now) _ two-refusal.ensures c.if-refusal-ne0.false (omega (arith, c.if-out-header_len.true, c.header_len.ensures))); bytes = silent-bytes (in-room x.w x.s.now x.t.now x.allowance (length x.out.now) _ two-refusal.ensures c.if-refusal-ne0.false (omega (arith, c.if-out-header_len.true, c.header_len.ensures))) }
-
-pub walk_less-requires : goal.walk_less-requires
-walk_less-requires c =
-    let x = c.args in
-    let l = two_lent x.w x.s.now x.t.now _ c.two_refusal-refusal.ensures c.if-refusal-ne0.false in
-    rw c.cube_len.ensures (
-      record {
-        short = omega (arith, l.0.narrow);
-        first = front-stands (record_of true x.w 0 x.s.now 0 l.0.sound) c.front_at-f.ensures.0;
-        second = front-stands (record_of true x.w 0 x.t.now 0 l.1.sound) c.front_at-g.ensures.0;
-      },
-      search rules,
-    )
+    let is = in-room x.w x.s.now x.t.now x.allowance (length x.out.now) c.in-Ok.ensures.0 (omega (arith, c.if-out-header_len.true, c.header_len.ensures)) in
+    record { answer = silent-answer c.into.ensures is; bytes = silent-bytes is }
 
 pub tell-requires : goal.tell-requires
 tell-requires c =
-    let if2 = c.if-out-header_len in
-    let header-len = c.header_len in
-    let if1 = c.if-refusal-ne0 in
-    let two-refusal = c.two_refusal-refusal in
-    let x = c.args in
-    let l = two_lent x.w x.s.now x.t.now _ two-refusal.ensures if1.false in
-    (l.0.narrow, omega (arith, if2.false, header-len.ensures))
+    let lent = c.in-Ok.ensures in
+    ((two_lent c.args.w c.args.s.now c.args.t.now accepted (sym lent.0) refl).0.narrow, omega (arith, c.if-out-header_len.false, c.header_len.ensures))
 
 pub returns : goal.returns
 returns c =
-    let cube-len = c.cube_len in
-    let front-at2 = c.front_at-g in
-    let Front-at = c.front_at-f in
-    let if2 = c.if-out-header_len in
-    let header-len = c.header_len in
-    let if1 = c.if-refusal-ne0 in
-    let two-refusal = c.two_refusal-refusal in
     let x = c.args in
     let v = c.walk_less in
-    record {
-      answer = told-answer (in_told x.w x.s.now x.t.now x.allowance (length x.out.now) _ two-refusal.ensures if1.false
-          (omega (arith, if2.false, header-len.ensures)) Front-at.ensures.0 front-at2.ensures.0 v.result (rw cube-len.ensures at v.ensures)) c.tell.ensures.answer;
-      bytes = told-bytes x.out.now (in_told x.w x.s.now x.t.now x.allowance (length x.out.now) _ two-refusal.ensures if1.false
-          (omega (arith, if2.false, header-len.ensures)) Front-at.ensures.0 front-at2.ensures.0 v.result (rw cube-len.ensures at v.ensures)) c.tell.ensures.bytes;
-    }
+    let lent = c.in-Ok.ensures in
+    let is = in_told x.w x.s.now x.t.now x.allowance (length x.out.now) lent.0 (omega (arith, c.if-out-header_len.false, c.header_len.ensures))
+    lent.1 lent.2 v.result (rw (lent.1.size, c.fresh.ensures.0) at v.ensures) in
+    record { answer = told-answer is c.tell.ensures.answer; bytes = told-bytes x.out.now is c.tell.ensures.bytes }

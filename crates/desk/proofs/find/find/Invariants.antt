@@ -1,9 +1,0 @@
--- `desk::find::find` meets its contract. The search goes on from `from`.
-use Rattle.std.proofs.Common.{◌≤◌, ◌-◌, length}
-use Rattle.desk.proofs.find.find.Given as goal
-
-abbrev pub invariant-loop-i : goal.invariant-loop-i
-invariant-loop-i l = l.from ≤ l.i
-
-abbrev pub decreases-loop-i : goal.decreases-loop-i
-decreases-loop-i l = length l.s - l.i
