@@ -1,4 +1,5 @@
 // The calls that write regions. Each reads its operands, and leaves the rest to one engine.
+// Kept: each takes s, t and out one by one, and two of them differ in their task alone: their signatures are what the desk and the statement page call.
 ghost use Rattle.std.specs.Prelude.{◌≡◌, length};
 ghost use Rattle.format.specs.Told.{over};
 ghost use Rattle.format.specs.Calls.{region_tidy, diff_intersect, region_intersect, diff_less, region_less};

@@ -2,8 +2,9 @@
 --   number_of r == the number of the refusal r
 --   code x      == the number of what x refuses, and 0 where it refuses nothing
 --   Tested a x  == x is how a test ends whose answer is a: it lets pass where a is no refusal, and else it refuses with a, whose number is not 0
+--   LentAs x o r == r is how the tests of the lent operand o end, whose fault, if it has one, is that of x
 use Rattle.std.specs.Prelude.{ℕ, ◌≡◌, Result, Ok, Err, MatchResult}
-use Rattle.answer.specs.Answer.{accepted}
+use Rattle.answer.specs.Answer.{accepted, fault}
 use Rattle.answer.specs.declared.Answer.{Answer}
 use Rattle.answer.specs.declared.refusal.Refusal.{Refusal}
 use Rattle.answer.specs.declared.refusal.Refusal.TheVariants.{Width, Bits, CubeLength, CodeZero, UnusedPlace, CutShort, Kind, Length, Cuts, Differences, TwoWidths, Bounds, Room, Index, Input}
@@ -31,3 +32,6 @@ code (Err r) = number_of r
 
 abbrev pub Tested : Answer → Result Unit Answer → Type 0
 Tested a x = MatchResult x (λ u. a ≡ accepted) (λ e. (e ≡ a) × ¬ (e.number ≡ 0))
+
+abbrev pub LentAs : Result Unit Refusal → ℕ → Result Unit Answer → Type 0
+LentAs x o r = MatchResult x (λ u. r ≡ Ok u) (λ e. r ≡ Err (fault (number_of e) o 0))

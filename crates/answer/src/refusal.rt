@@ -1,7 +1,7 @@
 // Why a call is refused.
 ghost use Rattle.std.specs.Prelude.{◌≡◌};
 ghost use Rattle.answer.specs.Answer.{fault, refused};
-ghost use Rattle.answer.specs.Refusals.{number_of};
+ghost use Rattle.answer.specs.Refusals.{number_of, LentAs};
 
 use super::Answer;
 
@@ -52,6 +52,16 @@ impl Refusal {
         ensures { result ≡ fault (number_of self) operand offset }
     {
         Answer::fault(self.number(), operand, offset)
+    }
+
+    // How the test of a lent cube or record ends, where it is known what is wrong with it: the fault is at its start.
+    pub fn of_lent(tested: Result<(), Refusal>, operand: u8) -> Result<(), Answer>
+        ensures { LentAs tested operand result }
+    {
+        match tested {
+            Ok(()) => Ok(()),
+            Err(refusal) => Err(refusal.of_operand(operand, 0)),
+        }
     }
 }
 

@@ -1,6 +1,5 @@
 -- The outcome of each call on two lent cubes, from what the calls on their bytes say.
 --   wrote_bytes n bs       == n bytes are written, and they are bs
---   cube-tested           how the tests of a lent cube end, from what is wrong with it
 --   in-refused, number-refused, meet-refused, wider-refused    where the width or a cube is refused, each call says so
 --   one_size              accepted cubes have as many bytes
 --   in-yes, in-no         whether the first lies in the second
@@ -8,9 +7,8 @@
 --   wider-first, wider-second, wider-neither       what is handed back then
 --   meet-apart, meet-short, meet-written    the cubes do not meet; there is no room for the meet; it is written
 --   is-first, is-second, is-neither         the reference handed back is the wider one, or an empty part of a
-use Rattle.std.specs.Prelude.{Result, Ok, Err, MatchResult, IsErrAnd}
-use Rattle.std.proofs.lemmas.Result.{err_from_is_err_and}
-use mathlib.Core.Path.{◌≡◌, refl, sym, ap, ap₂, subst, ◌∙◌}
+use Rattle.std.specs.Prelude.{Ok, Err}
+use mathlib.Core.Path.{◌≡◌, refl, sym, ap, ap₂, ◌∙◌}
 use mathlib.Core.List.{List, []}
 use mathlib.Core.Bool.{true, false, not, ◌||◌, or-true}
 use Prim.Native.Nat.{ℕ, ◌≤◌, ◌<◌}
@@ -19,29 +17,18 @@ use lib.ListN.{length}
 use denote.Ref.{Bor}
 use Rattle.model.specs.Cube.{meet, shares, within}
 use Rattle.answer.specs.declared.Answer.{Answer}
-use Rattle.answer.specs.Answer.{accepted, yes, no, refused, fault, wrote}
-use Rattle.answer.specs.Refusals.{number_of, code, Tested}
-use Rattle.answer.specs.declared.refusal.Refusal.{Refusal}
+use Rattle.answer.specs.Answer.{accepted, yes, no, refused, wrote}
+use Rattle.answer.specs.Refusals.{Tested}
 use Rattle.format.specs.Rows.{Rows, last, row, so, outcome}
-use Rattle.format.specs.Bytes.{Bytes, lent_fault, codes, read_cube, write_cube}
-use Rattle.format.specs.Told.{Told, silent, cube_tests, two_cubes, yes_or, writing}
+use Rattle.format.specs.Bytes.{Bytes, codes, read_cube, write_cube}
+use Rattle.format.specs.Told.{Told, silent, two_cubes, yes_or, writing}
 use Rattle.format.specs.Calls.{cube_meet, cube_in, Which, first, second, neither, wider, wider_number}
 use Rattle.format.proofs.Reached.{reached}
-use Rattle.format.proofs.Refusals.{numbered}
 use Rattle.format.proofs.Lending.{pair-refused, pair-passed, pair-lent}
 use Rattle.cube.specs.Pair.{lies_in, and_bytes}
 use Rattle.cube.specs.Call.{WiderIs}
 use Rattle.cube.proofs.Codes.{length-and}
 use Rattle.cube.proofs.Reading.{lent-clean, read-shares, read-lies, read-meet}
-
--- what a lent cube is refused with
-pub cube-tested : (w : ℕ) (c : List ℕ) (o : ℕ) (x : Result Unit Refusal) (r : Result Unit Answer) → code x ≡ lent_fault w c
-    → MatchResult x (λ u. r ≡ Ok u) (λ e. IsErrAnd r (λ a. a ≡ fault (number_of e) o 0)) → Tested (outcome (cube_tests w c o)) r
-cube-tested w c o (Ok u) r e h = subst (λ (y : Result Unit Answer). Tested (outcome (cube_tests w c o)) y) (sym h) (sym (reached 1 (cube_tests w c o) (sym e, tt)))
-cube-tested w c o (Err f) r e h =
-    let p = err_from_is_err_and r h in
-    let n = numbered f in
-    rw (p.1, p.2) (ap (λ (n : ℕ). fault n o 0) e ∙ reached 0 (cube_tests w c o) (λ z. n (e ∙ z)), n)
 
 abbrev pub wrote_bytes : ℕ → List ℕ → Told
 wrote_bytes n bs = record { answer = wrote n; bytes = bs }

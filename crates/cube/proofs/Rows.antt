@@ -1,7 +1,6 @@
 -- The slices of a row, from its other end, and as cubes.
-use Rattle.std.proofs.Common.{ℕ, zero, suc, ◌≡◌, ◌+◌, ◌-◌, ◌*◌, ◌≤◌, ◌<◌, List, [], ◌∷◌, ◌++◌, length, take, drop, map, refl, ap, sym, ◌∙◌, subst, zero-mul, arith}
+use Rattle.std.proofs.Common.{ℕ, zero, suc, ◌≡◌, ◌+◌, ◌-◌, ◌*◌, ◌≤◌, ◌<◌, List, [], ◌∷◌, ◌++◌, length, take, drop, map, refl, ap, sym, ◌∙◌, zero-mul, arith}
 use Rattle.std.proofs.lemmas.List.{drop-drop}
-use Rattle.model.specs.Cube.{Cube}
 use Rattle.format.specs.Bytes.{codes}
 use Rattle.cube.specs.Whole.{cube_of, whole_at, wholes_at}
 use Rattle.cube.specs.Row.{slices}

@@ -1,7 +1,7 @@
 // The public questions about two lent cubes.
+// Kept: each takes w, a and b one by one, and asks its own question of them: its signature is what the desk and the statement page call.
 ghost use Rattle.std.specs.Prelude.{◌≡◌, length};
-ghost use Rattle.answer.specs.Refusals.{number_of, Tested};
-ghost use Rattle.answer.specs.Answer.{fault};
+ghost use Rattle.answer.specs.Refusals.{Tested};
 ghost use Rattle.format.specs.Rows.{outcome};
 ghost use Rattle.format.specs.Told.{over, cube_tests, two_cubes};
 ghost use Rattle.format.specs.Calls.{cube_meet, cube_in, wider_number};
@@ -16,11 +16,7 @@ use answer::{Answer, Refusal};
 fn cube_refusal(w: usize, c: &[u8], operand: u8) -> Result<(), Answer>
     ensures { Tested (outcome (cube_tests w c.now operand)) result }
 {
-    lent_fault(c, w).map_err(
-        |refusal: Refusal| -> Answer
-            ensures { result ≡ fault (number_of refusal) operand 0 }
-        { refusal.of_operand(operand, 0) },
-    )
+    Refusal::of_lent(lent_fault(c, w), operand)
 }
 
 // The refusal of a width given directly or of one of two lent cubes.

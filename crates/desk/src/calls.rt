@@ -69,6 +69,7 @@ pub(crate) enum Beside<'a> {
     Place(usize),
 }
 
+// Kept: one reader for each list of arguments, since a match that read them all would be too long for one proof.
 impl<'a> One<'a> {
     fn read(words: &mut Words<'a>) -> Option<One<'a>> {
         let w = words.number()?;

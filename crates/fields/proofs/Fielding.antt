@@ -7,6 +7,7 @@
 --   cuts-more           the cuts of one position more
 --   cut-length, cuts-length, cuts-room    how many bytes a cut and the cuts take, and that two more fit
 --   pairs-few, equal-cuts, equal-bytes, equal-size   the cuts and the record of an equality
+--   equal-room          the record of an equality fits
 --   lent-bytes          a part that was lent and came back holds bytes
 use Prim.Native.Nat.{ℕ, zero, suc, ◌+◌, ◌-◌, ◌*◌, ◌≤◌, ◌<◌}
 use native.Mathlib.Nat.{mul-le-mul_right, add-zero}
@@ -23,13 +24,13 @@ use Rattle.model.specs.Cube.{Header, Code, v0, v1, free, Cube}
 use Rattle.model.specs.Fields.{bit_code, prefix_cube, apart, unequal, fields_equal}
 use Rattle.model.proofs.Field.{prefix-length, equal-count}
 use Rattle.model.specs.Padding.{pad}
-use Rattle.format.specs.Limits.{widest_cube, most_cuts}
+use Rattle.format.specs.Limits.{widest, widest_cube, most_cuts}
 use Rattle.format.specs.Bytes.{Bytes, cube_len, bit_of, code_of, codes, write_cube, unused}
-use Rattle.format.specs.Records.{cubes_bytes, front_bytes, difference_bytes}
+use Rattle.format.specs.Records.{front_len, cubes_bytes, front_bytes, difference_bytes}
 use Rattle.format.proofs.Coding.{write-length, codes-free}
 use Rattle.region.specs.Writing.{record_len}
 use Rattle.region.proofs.Writing.{all-bytes, front_length, record-len}
-use Rattle.fields.specs.Equality.{pairs, equal_bytes}
+use Rattle.fields.specs.Equality.{most_pairs, pairs, equal_bytes}
 use Rattle.cube.proofs.Coded.{bytes-are}
 
 frees : (n m k : ℕ) → n + m ≡ k → replicate n free ++ replicate m free ≡ replicate k free
@@ -168,3 +169,12 @@ bytes-part (x ∷ a) b c h = bytes-part a b c h.1
 
 pub lent-bytes : (xs ys : List ℕ) (o k : ℕ) → ((i : ℕ) → get_or (put_mid o k xs ys) i 0 < 256) → Bytes ys
 lent-bytes xs ys o k h = bytes-part (take o xs) ys (drop k (drop o xs)) (all-bytes (put_mid o k xs ys) h)
+
+-- the record of an equality fits, its front, its base and its cuts
+pub equal-room : (n w o q room : ℕ) → n ≤ most_pairs → w ≤ widest → q ≡ cube_len w → o ≡ front_len (2 * n) → record_len (2 * n) (cube_len w) ≤ room
+    → o + (2 * n + 1) * q ≤ room
+equal-room n w o q room few narrow e f h =
+    let some : 2 * n ≤ most_cuts = omega (arith, few) in
+    let short : cube_len w ≤ widest_cube = omega (arith, narrow) in
+    let whole = rw (record-len (2 * n) (cube_len w) some short) at h in
+    omega (arith, rw (← e) at whole, f)

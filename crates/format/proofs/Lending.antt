@@ -2,6 +2,7 @@
 --   Accepts a          == the number of a is 0, which refuses nothing
 --   tests-refused, tests-passed, tests-past    of any tests p: a refusal is what the table gives; where there is none it goes on, and each test fails
 --   tested-refused, tested-passed    how two tables of tests in a row end: with the refusal of the first, or else as the second does
+--   lent-tested    how the tests of a lent cube or record end, from what is wrong with it
 --   width-refused, pair-refused, one-refused, two-refused, record-refused, bits-refused    a refusal is what the call's table gives
 --   width-passed, pair-passed, one-passed, two-passed, record-passed, bits-passed    where there is none, the table goes on
 --   width-lent, pair-lent, one_lent, two_lent, record-lent, bits-lent    where there is none, what was lent is accepted
@@ -21,14 +22,16 @@ use mathlib.Core.Bool.{Bool, true, false}
 use lib.ListN.{length, drop}
 use Rattle.answer.specs.declared.Answer.{Answer}
 use Rattle.answer.specs.Answer.{accepted, fault}
-use Rattle.answer.specs.Refusals.{Tested}
-use Rattle.format.specs.Rows.{Rows, onto, then, outcome}
+use Rattle.answer.specs.declared.refusal.Refusal.{Refusal}
+use Rattle.answer.specs.Refusals.{code, Tested, LentAs}
+use Rattle.format.specs.Rows.{Rows, last, row, isnt, onto, then, outcome}
 use Rattle.format.specs.Limits.{widest}
 use Rattle.format.specs.Bytes.{header_len, bits, any_bit, lent_fault}
 use Rattle.format.specs.Records.{frame_rows, number_rows, difference_fault}
 use Rattle.format.specs.Files.{read_file, fault_number, fault_offset}
 use Rattle.format.specs.Told.{Told, over, silent, width_tests, record_tests, bits_tests, two_cubes, one_record, two_records, lent_record, lent_file, lent_bits}
 use Rattle.format.specs.Meaning.{Lent}
+use Rattle.format.proofs.Refusals.{numbered}
 use Rattle.format.proofs.Reached.{reached, skipped, Ends, Refuses, Past, refused, passed, past, clean}
 
 abbrev pub Accepts : Answer → Type 0
@@ -51,6 +54,17 @@ module _ (p k : Rows Answer) where
 
   pub tested-passed : (r : Result Unit Answer) → Refuses Accepts p → Tested (outcome p) (Ok tt) → Tested (outcome k) r → Tested (outcome (then p k)) r
   tested-passed r h t e = subst (λ (a : Answer). Tested a r) (tests-passed p accepted (sym t) (λ a. a) k h refl) e
+
+-- how the tests of a lent operand end, which are one test of the fault f
+pub lent-tested : (f o : ℕ) (x : Result Unit Refusal) (r : Result Unit Answer) → code x ≡ f → LentAs x o r
+    → Tested (outcome (row (isnt f 0) (fault f o 0) (last accepted))) r
+lent-tested f o (Ok u) r e h =
+    let p : Rows Answer = row (isnt f 0) (fault f o 0) (last accepted) in
+    subst (λ (y : Result Unit Answer). Tested (outcome p) y) (sym h) (sym (reached 1 p (sym e, tt)))
+lent-tested f o (Err g) r e h =
+    let p : Rows Answer = row (isnt f 0) (fault f o 0) (last accepted) in
+    let n = numbered g in
+    rw h (ap (λ (n : ℕ). fault n o 0) e ∙ reached 0 p (λ z. n (e ∙ z)), n)
 
 -- a width given directly; what follows makes of a refusal what f says
 module _ (w : ℕ) (r : Answer) (e : r ≡ outcome (width_tests w)) where

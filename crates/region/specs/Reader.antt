@@ -5,7 +5,7 @@
 --   RefusedIs s r           == r is why the file s is refused and where, and its width
 --   AcceptedIs s f          == f is of the accepted file s: its width, and how many differences it has
 --   FileIs s x              == x is what reading the file s gives
---   AskedOn s h a           == a is of the accepted file s: its width, and the first of its differences that holds what h spells
+--   AskedOn s h a           == a is of the accepted file s: its width, how many differences it has, and the first of them that holds what h spells
 --   AskedIs s h x           == x is what reading the file s gives, where a header is asked for
 --   BegunOn s r, BegunIs s x  == r is a reader of the file s before its first difference; x is what beginning to read it gives
 --   Turned r t d            == a turn of the reader r accepted the record at its place, with the difference d, and left the reader t
@@ -54,6 +54,7 @@ FileIs s x = MatchResult x (AcceptedIs s) (RefusedIs s)
 pub record AskedOn (s h : List ℕ) (a : Asked) : Type 0 where
   pub accepted : fault_number (read_file s) ≡ 0
   pub width : a.width ≡ width_of s
+  pub count : a.count ≡ length (offsets (read_file s))
   pub holder : holder_of a.holder ≡ first_record (width_of s) h s (offsets (read_file s))
 
 abbrev pub AskedIs : List ℕ → List ℕ → Result Asked Refused → Type 0

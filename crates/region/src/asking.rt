@@ -1,13 +1,14 @@
-// Membership in a file, asked while it is read.
+// A file that is read from its start to its end, and membership in it, asked meanwhile.
 ghost use Rattle.region.specs.Reader.{AskedIs};
 
 use super::files::Refused;
 use super::records::Records;
 
-// The width of an accepted file, and the index of the first of its differences that holds the header asked for.
+// The width of an accepted file, how many differences it has, and the index of the first of them that holds the header asked for.
 #[derive(Clone, Copy, Debug, PartialEq, Eq)]
 pub(crate) struct Asked {
     pub(crate) width: usize,
+    pub(crate) count: usize,
     pub(crate) holder: Option<u16>,
 }
 
@@ -24,6 +25,7 @@ pub(crate) fn ask_file(s: &[u8], h: &[u8]) -> Result<Asked, Refused>
     }
     Ok(Asked {
         width: records.width,
+        count: records.count,
         holder,
     })
 }

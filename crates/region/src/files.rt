@@ -4,7 +4,7 @@ ghost use Rattle.answer.specs.Answer.{fault};
 ghost use Rattle.answer.specs.Refusals.{number_of};
 ghost use Rattle.region.specs.Reader.{FileIs};
 
-use super::records::Records;
+use super::asking::{Asked, ask_file};
 use answer::{Answer, Refusal};
 
 // An accepted file: the width that kind 1 states, and how many differences it has.
@@ -31,14 +31,11 @@ impl Refused {
     }
 }
 
-// Reads a region file from its start to its end, record after record.
+// Reads a region file from its start to its end, record after record: as membership does, whose loop is the only one over records, so that the reader of
+// records is compiled into it. The header that is asked for has no bytes, and no record holds it.
 pub fn check_file(s: &[u8]) -> Result<File, Refused>
     ensures { FileIs s.now result }
 {
-    let mut records = Records::begin(s)?;
-    while let Some(_) = records.read()? {}
-    Ok(File {
-        width: records.width,
-        count: records.count,
-    })
+    let Asked { width, count, .. } = ask_file(s, &[])?;
+    Ok(File { width, count })
 }

@@ -1,7 +1,6 @@
 // A single record that is lent: what it is refused with, as every call on it says it, and its difference.
 ghost use Rattle.std.specs.Prelude.{◌≡◌, ◌≤◌};
-ghost use Rattle.answer.specs.Answer.{fault};
-ghost use Rattle.answer.specs.Refusals.{number_of, Tested};
+ghost use Rattle.answer.specs.Refusals.{Tested};
 ghost use Rattle.format.specs.Limits.{widest};
 ghost use Rattle.format.specs.Rows.{outcome};
 ghost use Rattle.format.specs.Told.{record_tests, one_record, two_records};
@@ -17,11 +16,7 @@ use cube::{cube_len, width_refusal};
 pub fn record_refusal(w: usize, s: &[u8], operand: u8) -> Result<(), Answer>
     ensures { Tested (outcome (record_tests w s.now operand)) result }
 {
-    alone_fault(s, w).map_err(
-        |refusal: Refusal| -> Answer
-            ensures { result ≡ fault (number_of refusal) operand 0 }
-        { refusal.of_operand(operand, 0) },
-    )
+    Refusal::of_lent(alone_fault(s, w), operand)
 }
 
 // The difference of a record beside a file of w positions, which is the operand of that number, or its refusal.
@@ -45,11 +40,19 @@ pub fn one_difference<'a>(w: usize, s: &'a [u8]) -> Result<Difference<'a>, Answe
     lent_difference(w, s, 1)
 }
 
+// The refusal of a width given directly or of the record beside it.
+pub fn one_refusal(w: usize, s: &[u8]) -> Result<(), Answer>
+    ensures { Tested (outcome (one_record w s.now)) result }
+{
+    one_difference(w, s)?;
+    Ok(())
+}
+
 // The refusal of a width given directly or of one of the two records beside it.
 pub fn two_refusal(w: usize, s: &[u8], t: &[u8]) -> Result<(), Answer>
     ensures { Tested (outcome (two_records w s.now t.now)) result }
 {
-    one_difference(w, s)?;
+    one_refusal(w, s)?;
     record_refusal(w, t, 2)
 }
 

@@ -25,7 +25,7 @@ pub use calls::{diff_member, region_member};
 pub use difference::Difference;
 pub use files::{File, Refused, check_file};
 pub use front::{Front, front_at};
-pub use lent::{one_difference, record_refusal, two_differences, two_refusal};
+pub use lent::{one_difference, one_refusal, record_refusal, two_differences, two_refusal};
 pub use limits::{MOST_CUTS, MOST_DIFFERENCES, TAKEN_CUTS, WIDTH_RECORD};
 pub use reader::{Reader, Turn, begin_reading, first_step, step_on};
 pub use steps::{Step, read_on};

@@ -1,4 +1,5 @@
 // Cubes of a region file by difference and index, as stretches of the file.
+// Kept: three calls take s, d and i one by one, since their signatures are what the desk and the statement page call.
 ghost use Rattle.std.specs.Prelude.{◌≡◌, ◌+◌, ◌≤◌, length};
 ghost use Rattle.format.specs.Calls.{view};
 ghost use Rattle.region.specs.Viewing.{viewed, PlaceIs, StretchIs};

@@ -24,7 +24,8 @@ use Rattle.visits.specs.Alive.{digit, clash, Against}
 use Rattle.visits.specs.Loading.{cut_in, Entered, Met}
 use Rattle.visits.proofs.Digits.{same_or_not, digit-below, digit-top, threes-at}
 use Rattle.visits.proofs.Meeting.{pow-double}
-use Rattle.visits.proofs.WordCubes.{words-length, words-at, before-first}
+use Rattle.visits.specs.Places.{words-length, words-at}
+use Rattle.visits.proofs.WordCubes.{before-first}
 
 pub record DigitMore (m x : ℕ) (b : Bool) : Type 0 where
   pub under : x + 2 ^ m * bit b < 2 ^ suc m

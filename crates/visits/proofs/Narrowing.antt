@@ -10,7 +10,11 @@
 --   begun                 how the visit begins
 --   survives-stops        a piece that no cut meets ends the walk
 --   tells-covered         what a covered reply says
-use Prim.Native.Nat.{ℕ, zero, suc, ◌+◌, ◌-◌, ◌*◌, ◌/◌, ◌%◌, ◌≤◌, ◌<◌}
+--   Told                  what is told of the walk of a piece, and the slots then
+--   told-known, told-visited   it is so where the walk was known, and where the piece is visited
+--   told-stops            where it is not covered, that is the answer
+--   told-sum, told-count  the pieces left and spent make the same sum; how many pieces a covered walk has
+use Prim.Native.Nat.{ℕ, zero, suc, ◌+◌, ◌-◌, ◌*◌, ◌/◌, ◌%◌, ◌^◌, ◌≤◌, ◌<◌}
 use native.Mathlib.Nat.{mod-lt}
 use native.Mathlib.Omega.{arith}
 use mathlib.Core.Path.{◌≡◌, refl, sym, ap, ◌∙◌}
@@ -28,16 +32,20 @@ use Rattle.std.specs.Prelude.{Option, Some, None}
 use Rattle.visits.specs.Settle.{Said, after, settle, left_from}
 use Rattle.visits.specs.Words.{place_at, number_in, code_in, cube_of_words, row_cube, cuts_below, GivenWord}
 use Rattle.visits.specs.Alive.{Alive, Against}
-use Rattle.visits.specs.Replies.{tells, survives}
+use Rattle.visits.specs.Memory.{Finds, Memory}
+use Rattle.visits.specs.Replies.{tells, survives, Pays}
+use Rattle.visits.specs.declared.memory.Slot.{Slot}
 use Rattle.visits.specs.declared.allowance.Allowance.{Allowance}
 use Rattle.visits.specs.declared.allowance.Verdict.TheVariants.{Covered, Survives, Undecided}
 use Rattle.visits.specs.declared.allowance.Outcome.{Outcome}
 use Rattle.visits.proofs.Openings.{first-opens, first-after}
-use Rattle.visits.proofs.WordCubes.{words-length, words-at, words-given}
+use Rattle.visits.specs.Places.{words-length, words-at}
+use Rattle.visits.proofs.WordCubes.{words-given}
 use Rattle.visits.proofs.Turn.{turn_end, turn-covered, turn-stop}
-use Rattle.visits.proofs.Settle.{settle-on, settle-le, settle-lt}
+use Rattle.visits.proofs.Settle.{settle-on, settle-le, settle-lt, settle-keeps}
+use Rattle.visits.proofs.Paying.{covered-finds}
 use Rattle.visits.proofs.Digits.{below_or}
-use Rattle.visits.proofs.Meeting.{alive-child, rows-met}
+use Rattle.visits.proofs.Meeting.{alive-child, alive-passed, alive-top, rows-met}
 use Rattle.cube.proofs.Codes.{below4}
 
 pub record Opens (x y : ℕ) : Type 0 where
@@ -145,14 +153,10 @@ pub none-opens : (f : Cube → Found) (near cut : List ℕ) (r : Option ℕ) (ha
 none-opens f near cut r have s e = turn_end f (cube_of_words cut) (cube_of_words near) have (words-length near ∙ sym (words-length cut)) (s.none_left e)
 
 -- the position takes the cut's value: the next one that opens is a later one
-pub later_first : (near cut : List ℕ) (i y : ℕ) (p : Cube) → Opened near cut i y → p ≡ set (cube_of_words near) i (code_of y)
-    → (i < first_open p (cube_of_words cut)) × (i / 32 ≤ 10) × (32 * (i / 32) ≤ first_open p (cube_of_words cut))
-later_first near cut i y p o c = (later, omega (arith, o.inside), omega (arith, later))
-  where
-    later : i < first_open p (cube_of_words cut)
-    later =
-        rw (c, o.fixed)
-        (rw (← o.first) at (first-after (cube_of_words near) (cube_of_words cut) (words-length near ∙ sym (words-length cut)) (omega (arith, words-length near, o.first, o.inside))))
+pub later_first : (near cut : List ℕ) (i y : ℕ) (p : Cube) → Opened near cut i y → p ≡ set (cube_of_words near) i (code_of y) → i < first_open p (cube_of_words cut)
+later_first near cut i y p o c =
+    rw (c, o.fixed)
+    (rw (← o.first) at (first-after (cube_of_words near) (cube_of_words cut) (words-length near ∙ sym (words-length cut)) (omega (arith, words-length near, o.first, o.inside))))
 
 pub begun : (cuts : List (List ℕ)) (n : ℕ) (p : Cube) (a b : Allowance) → 0 < a.left → b ≡ after a 1 → shares p (row_cube cuts n) ≡ true
     → settle a (visit (cuts_below cuts (suc n)) p) ≡ left_from (visit (cuts_below cuts n)) (cube_of_words (get_or cuts n [])) b p
@@ -166,3 +170,28 @@ survives-stops a p e =
 
 pub tells-covered : (r : Outcome (List ℕ)) → r.verdict ≡ Covered → tells r ≡ record { allowance = r.allowance; verdict = Covered; piece = [] }
 tells-covered r e = rw e
+
+-- what is told of the walk of the piece p, which the cuts below n are left of
+pub record Told (cuts : List (List ℕ)) (n : ℕ) (have : Allowance) (p : Cube) (r : Outcome (List ℕ)) (slots : List Slot) : Type 0 where
+  pub said : tells r ≡ settle have (visit (cuts_below cuts n) p)
+  pub memory : Memory cuts slots
+
+module _ (cuts : List (List ℕ)) (n : ℕ) (have : Allowance) (p : Cube) (alive : ℕ) (a : Alive cuts n p alive) (r s : Outcome (List ℕ)) (e : r ≡ s) (slots after : List Slot) (k : slots ≡ after) (m : Memory cuts after) where
+  pub told-known : (count : ℕ) → Finds count (visit (cuts_below cuts n) p) → Pays count have s → Told cuts n have p r slots
+  told-known count f t = record { said = rw e (t (visit (cuts_below cuts n) p) f); memory = rw k m }
+
+  pub told-visited : (top : ℕ) → (top < 64) × (alive < 2 ^ suc top) × (2 ^ top ≤ alive) → tells s ≡ settle have (visit (cuts_below cuts (suc top)) p) → Told cuts n have p r slots
+  told-visited top h t =
+      record { said = rw e (t ∙ ap (settle have) (sym (alive-passed cuts n (suc top) p alive a h.1 (alive-top n top alive a.0 h.2)))); memory = rw k m }
+
+module _ (cuts : List (List ℕ)) (n : ℕ) (have : Allowance) (p : Cube) (r : Outcome (List ℕ)) (slots : List Slot) (t : Told cuts n have p r slots) where
+  pub told-sum : r.allowance.left + r.allowance.spent ≡ have.left + have.spent
+  told-sum = settle-keeps have (visit (cuts_below cuts n) p) (tells r) t.said
+
+  pub told-count : r.verdict ≡ Covered → (have.spent ≤ r.allowance.spent) × Finds (r.allowance.spent - have.spent) (visit (cuts_below cuts n) p)
+  told-count c = covered-finds have r.allowance (visit (cuts_below cuts n) p) (sym t.said ∙ tells-covered r c)
+
+  pub told-stops : (near cut : List ℕ) (i y : ℕ) → length near ≡ 10 → Opened near cut i y → (word : ℕ) → GivenWord (get_or near (i / 32) 0) (i % 32) (3 - y) word → p ≡ cube_of_words (set near (i / 32) word)
+      → (r.verdict ≡ Covered → ⊥) → (left_from (visit (cuts_below cuts n)) (cube_of_words cut) have (cube_of_words near) ≡ tells r) × Memory cuts slots
+  told-stops near cut i y l o word g e c =
+      (child-stops near cut i y l o (visit (cuts_below cuts n)) have word g (tells r) (t.said ∙ ap (λ (q : Cube). settle have (visit (cuts_below cuts n) q)) e) c, t.memory)

@@ -1,35 +1,22 @@
 -- Where a cut opens a piece, and the pieces to visit.
 --   first-opens      the first position that opens does
---   first-most       it is a position, or as many as there are
 --   children-first   the pieces to visit: the one that differs there, and then those of the piece that agrees there
 --   children-none    where no position opens there is none
---   first-drop       what stands before it can be left out
 --   first-after      where the piece agrees with the cut, the next is a later one
 --   for-some         P of the value that an Option has
 --   first-found, first-left   the search for the first position ends at it, or where there is none
-use Prim.Native.Nat.{ℕ, zero, suc, ◌+◌, ◌≤◌, ◌<◌}
-use native.Mathlib.Nat.{zero-add}
+use Prim.Native.Nat.{ℕ, suc, ◌≤◌, ◌<◌}
 use native.Mathlib.Omega.{arith}
 use mathlib.Core.Path.{◌≡◌, refl, sym, subst, ap}
 use mathlib.Core.Bool.{Bool, true, false, cond}
 use mathlib.Core.List.{[], ◌∷◌, map}
-use lib.ListN.{length, get_or, drop, set}
+use lib.ListN.{length, get_or, set}
 use Rattle.model.specs.Cube.{Code, none, v0, v1, free, Cube}
 use Rattle.model.specs.Walk.{opens, other, children}
 use Rattle.visits.specs.Opening.{first_open, FirstOpen}
 use Rattle.std.specs.Prelude.{Some, None}
 use Rattle.std.specs.Option.{ForSome}
 use Rattle.std.proofs.lemmas.Option.{none-some}
-
-pub first-most : (p c : Cube) → first_open p c ≤ length p
-unfolding first_open
-first-most [] c = omega arith
-first-most (x ∷ p) [] = omega arith
-first-most (x ∷ p) (y ∷ c) = go (opens x y) (first-most p c)
-  where
-    go : (b : Bool) → first_open p c ≤ length p → cond b 0 (suc (first_open p c)) ≤ suc (length p)
-    go true h = omega arith
-    go false h = omega arith
 
 pub first-opens : (p c : Cube) → length p ≡ length c → first_open p c < length p → opens (get_or p (first_open p c) none) (get_or c (first_open p c) none) ≡ true
 unfolding first_open
@@ -74,18 +61,6 @@ children-none (x ∷ p) (y ∷ c) e h = go (opens x y) h (children-none p c (ome
         → cond b ((other y ∷ p) ∷ map (λ q. y ∷ q) (children p c)) (map (λ q. x ∷ q) (children p c)) ≡ []
     go true h ih = absurd (omega arith)
     go false h ih = rw (ih (omega arith))
-
-pub first-drop : (m : ℕ) (p c : Cube) → length p ≡ length c → m ≤ first_open p c → first_open p c ≡ m + first_open (drop m p) (drop m c)
-unfolding first_open
-first-drop zero p c e h = rw zero-add
-first-drop (suc m) [] c e h = absurd (omega arith)
-first-drop (suc m) (x ∷ p) [] e h = absurd (omega arith)
-first-drop (suc m) (x ∷ p) (y ∷ c) e h = go (opens x y) h (first-drop m p c (omega arith))
-  where
-    go : (b : Bool) → suc m ≤ cond b 0 (suc (first_open p c)) → (m ≤ first_open p c → first_open p c ≡ m + first_open (drop m p) (drop m c))
-        → cond b 0 (suc (first_open p c)) ≡ suc m + first_open (drop m p) (drop m c)
-    go true h ih = absurd (omega arith)
-    go false h ih = omega (arith, ih (omega arith))
 
 pub first-after : (p c : Cube) → length p ≡ length c → first_open p c < length p → first_open p c < first_open (set p (first_open p c) (get_or c (first_open p c) none)) c
 unfolding first_open

@@ -35,7 +35,8 @@ use Rattle.std.proofs.lemmas.List.Elements.{All-get_or, All-set, All-replicate}
 use Rattle.std.proofs.lemmas.Option.{none-some}
 use Rattle.visits.proofs.Digits.{same_or_not, below_or, or-none, xor-none, place-and, place-or, digit-below}
 use Rattle.visits.proofs.Openings.{for-some}
-use Rattle.visits.proofs.WordCubes.{words-length, words-at, row-length}
+use Rattle.visits.specs.Places.{words-length, words-at}
+use Rattle.visits.proofs.WordCubes.{row-length}
 use Rattle.visits.proofs.Meeting.{alive-passed, pow-double}
 use Rattle.cube.proofs.Codes.{below4, four-and}
 

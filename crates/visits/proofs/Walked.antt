@@ -2,7 +2,7 @@
 --   possible-fits, fits-possible, unfit   a walk can be exactly where it fits
 --   walked-idle                    one that cannot be visits nothing
 --   walked-settles                 one that can be is settled
---   row-fits, walked-row           the row of its cuts fits, and the visit with that row is the walk
+--   walked-row                     the visit with the row of its cuts is the walk
 use Prim.Native.Nat.{ℕ, ◌+◌, ◌*◌, ◌^◌, ◌≤◌, ◌<◌}
 use native.Mathlib.Omega.{arith}
 use mathlib.Core.Path.{◌≡◌, refl, sym, ◌∙◌}
@@ -58,9 +58,6 @@ module _ (q : ℕ) (piece s : List ℕ) (at left : ℕ) (a : Allowance) where
 
   -- the row of those cuts
   module _ (r : Row) (can : possible (length s) q at left a ≡ true) (k : RowOf s at q left r) where
-    pub row-fits : (r.size ≤ 80) × (r.count ≤ 65)
-    row-fits = let f = possible-fits (length s) q at left a can in (omega (arith, f.0, k.size), omega (arith, f.2, k.count))
-
     pub walked-row : (b : Allowance) (o : Outcome (List ℕ)) → b ≡ a → says r.size o ≡ settle b (visit (cubes_of r) (cube_of r.size piece)) → says q o ≡ walked q piece s at left a
     unfolding cubes_of
     walked-row b o eb e = (rw (k.size, k.bytes, k.count, slices-cubes q s at left, eb) at e) ∙ sym (walked-settles (possible-fits (length s) q at left a can))

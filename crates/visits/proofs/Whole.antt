@@ -28,7 +28,7 @@ use Rattle.cube.specs.declared.row.Row.{Row}
 use Rattle.visits.specs.Opening.{bit}
 use Rattle.visits.specs.Cuts.{cubes_of}
 use Rattle.visits.specs.Loading.{cut_in, Loaded, Met}
-use Rattle.visits.proofs.Cuts.{row-cubes}
+use Rattle.visits.proofs.CutRows.{row-cubes}
 use Rattle.visits.specs.Replies.{tells, InBytes}
 use Rattle.visits.specs.Walked.{Resumed}
 use Rattle.visits.specs.declared.allowance.Allowance.{Allowance}
@@ -146,7 +146,13 @@ in-bytes-says q u a v r o h e t =
     (ap (trim (4 * q)) e ∙ trim-settle (4 * q) u a v h)
 
 -- a smaller allowance
-module _ (q : ℕ) (a b : Allowance) (v : Found) (r : Outcome (List ℕ)) (less : b.left ≤ a.left) (same : b.spent ≡ a.spent) (e : says q r ≡ settle b v) (n : r.verdict ≡ Undecided → ⊥) where
+module _ (q few : ℕ) (a b : Allowance) (v : Found) (r : Outcome (List ℕ)) (is : b ≡ record { left = few; spent = a.spent }) (f : few < a.left) (e : says q r ≡ settle b v) (n : r.verdict ≡ Undecided → ⊥) where
+  less : b.left ≤ a.left
+  less = omega (arith, ap (λ (x : Allowance). x.left) is)
+
+  same : b.spent ≡ a.spent
+  same = ap (λ (x : Allowance). x.spent) is
+
   paid : v.pieces ≤ b.left
   paid =
       ⊎_elim (λ (k : b.left < v.pieces). absurd (n (ap (λ (x : Said). x.verdict) (e ∙ settle-lt b v k)))) (λ k. k) (below_or b.left v.pieces)
@@ -154,14 +160,14 @@ module _ (q : ℕ) (a b : Allowance) (v : Found) (r : Outcome (List ℕ)) (less 
   spent-is : r.allowance.spent ≡ a.spent + v.pieces
   spent-is =
       let k = ap (λ (x : Said). x.allowance) (e ∙ settle-le b v paid) ∙ said-allowance (after b v.pieces) v.survivor in
-      omega (arith, ap (λ (x : Allowance). x.spent) k)
+      omega (arith, ap (λ (x : Allowance). x.spent) k, same)
 
   pub resumed-fits : (a.spent ≤ r.allowance.spent) × (r.allowance.spent - a.spent ≤ a.left)
-  resumed-fits = (omega (arith, spent-is), omega (arith, spent-is, paid))
+  resumed-fits = (omega (arith, spent-is), omega (arith, spent-is, paid, less))
 
   pub resumed-says : (o : Outcome (List ℕ)) → Resumed a r o → says q o ≡ settle a v
   resumed-says o t =
-      let p : v.pieces ≤ a.left = omega (arith, paid) in
+      let p : v.pieces ≤ a.left = omega (arith, paid, less) in
       let l : o.allowance.left ≡ a.left - v.pieces = omega (arith, t.left, spent-is) in
       let s : o.allowance.spent ≡ a.spent + v.pieces = omega (arith, t.spent, spent-is) in
       let x : o.allowance ≡ after a v.pieces = λ i. record { left = l i; spent = s i } in

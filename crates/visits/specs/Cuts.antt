@@ -1,6 +1,7 @@
 -- Cubes as the walk has them: whole bytes, so that an unused place is one more free position, which changes nothing.
 --   Given p i v r      == the 80 bytes r are the piece p with the code v at position i
 --   cubes_of r         == the cubes of the row r
+--   FirstCutOf r c s   == c is the first cut of the row r, and s the row of the others
 --   SplitFirst r x     == x is the first cut of the row r, with the row of the others, or none where it has none
 --   NextCut r p c s    == a visit of p with the row r passes to the cut c, which shares a header with p; the row s is left then
 --   FirstMet r p x     == x is the cut that a visit of p passes to, with the row that is left, or none where no cut shares a header with p
@@ -20,14 +21,14 @@ pub record Given (p : List ℕ) (i v : ℕ) (r : List ℕ) : Type 0 where
 unfoldable pub cubes_of : Row → List Cube
 cubes_of r = map codes (slices_of r)
 
-pub record First (r : Row) (c : List ℕ) (s : Row) : Type 0 where
+pub record FirstCutOf (r : Row) (c : List ℕ) (s : Row) : Type 0 where
   pub cubes : cubes_of r ≡ codes c ∷ cubes_of s
   pub long : length c ≡ r.size
   pub size : s.size ≡ r.size
   pub count : r.count ≡ suc s.count
 
 abbrev pub SplitFirst : Row → Option (Bor (List ℕ) × Row) → Type 0
-SplitFirst r x = MatchOption x (cubes_of r ≡ []) (λ y. First r y.0.now y.1)
+SplitFirst r x = MatchOption x (cubes_of r ≡ []) (λ y. FirstCutOf r y.0.now y.1)
 
 pub record NextCut (r : Row) (p : Cube) (c : List ℕ) (s : Row) : Type 0 where
   pub same : visit (cubes_of r) p ≡ visit (codes c ∷ cubes_of s) p

@@ -3,6 +3,7 @@ pub mod Cuts
 pub mod Opening
 pub mod Settle
 pub mod Words
+pub mod Places
 pub mod Alive
 pub mod Memory
 pub mod Replies

@@ -3,14 +3,10 @@
 --   FirstOpen p c r     == r is that position, where there is one
 --   is_fixed x          == the code x is a value
 --   bit b              == 1 where b is true, else 0
---   quads a b c d      == the number with the digits a, b, c and d of base 4, 1 where one is true
---   marks f x          == the number with a digit for each place of the byte x: 1 where f holds of its code
---   openings x y       == the same for each place where a cut's byte y opens a piece's byte x
-use Rattle.std.specs.Prelude.{ℕ, suc, ◌+◌, ◌*◌, ◌/◌, ◌%◌, ◌≤◌, ◌<◌, ◌≡◌, [], ◌∷◌, Bool, true, false, cond, length, Option}
+use Rattle.std.specs.Prelude.{ℕ, suc, ◌≤◌, ◌<◌, ◌≡◌, [], ◌∷◌, Bool, true, false, cond, length, Option}
 use Rattle.std.specs.Option.{ForSome, ForNone}
 use Rattle.model.specs.Cube.{Code, none, v0, v1, free, Cube}
 use Rattle.model.specs.Walk.{opens}
-use Rattle.format.specs.Bytes.{code_of}
 
 unfoldable pub first_open : Cube → Cube → ℕ
 first_open [] c = 0
@@ -29,14 +25,3 @@ is_fixed free = false
 
 abbrev pub bit : Bool → ℕ
 bit b = cond b 1 0
-
-abbrev pub quads : Bool → Bool → Bool → Bool → ℕ
-quads a b c d = ((bit a * 4 + bit b) * 4 + bit c) * 4 + bit d
-
-unfoldable pub marks : (Code → Bool) → ℕ → ℕ
-marks f x = quads (f (code_of (x / 64 % 4))) (f (code_of (x / 16 % 4))) (f (code_of (x / 4 % 4))) (f (code_of (x % 4)))
-
-unfoldable pub openings : ℕ → ℕ → ℕ
-openings x y =
-    quads (opens (code_of (x / 64 % 4)) (code_of (y / 64 % 4))) (opens (code_of (x / 16 % 4)) (code_of (y / 16 % 4)))
-    (opens (code_of (x / 4 % 4)) (code_of (y / 4 % 4))) (opens (code_of (x % 4)) (code_of (y % 4)))

@@ -4,7 +4,7 @@
 --                                 within n bytes from an offset on, and no more pieces are left and spent than can be counted
 --   idle a                     == nothing is visited: undecided, and the allowance a is as it was
 --   walked q piece s at left a == the walk of the piece in the first q bytes of `piece`, with the `left` cuts of q bytes that stand in s from `at` on
---   PossibleWalk s q at left a x == x is the row of the cuts of that walk and its allowance, or none where it cannot be
+--   PossibleWalk s q at left a x == x is the cuts of that walk and its allowance, or none where it cannot be
 --   Resumed a r o              == the outcome o is the outcome r, with what it leaves of the allowance a
 use Rattle.std.specs.Prelude.{ℕ, ◌+◌, ◌-◌, ◌*◌, ◌≡◌, List, [], Bool, true, false, cond, length, Option, MatchOption}
 use Rattle.std.specs.Borrow.{Bor}
@@ -13,9 +13,9 @@ use Rattle.model.specs.Ceiling.{most_pieces}
 use Rattle.format.specs.Rows.{Rows, last, row, below, outcome}
 use Rattle.cube.specs.Whole.{cube_of, wholes_at}
 use Rattle.cube.specs.Row.{RowOf}
-use Rattle.cube.specs.declared.row.Row.{Row}
 use Rattle.visits.specs.declared.allowance.Allowance.{Allowance}
 use Rattle.visits.specs.declared.allowance.Purse.{Purse}
+use Rattle.visits.specs.declared.cuts.Cuts.{Cuts}
 use Rattle.visits.specs.declared.allowance.Outcome.{Outcome}
 use Rattle.visits.specs.declared.allowance.Verdict.TheVariants.{Undecided}
 use Rattle.visits.specs.Settle.{Said, settle}
@@ -38,9 +38,9 @@ unfoldable pub walked : ℕ → List ℕ → List ℕ → ℕ → ℕ → Allowa
 walked q piece s at left a =
     cond (possible (length s) q at left a) (settle a (visit (wholes_at q s at left) (cube_of q piece))) (idle a)
 
-abbrev pub PossibleWalk : Bor (List ℕ) → ℕ → ℕ → ℕ → Allowance → Option (Row × Purse) → Type 0
+abbrev pub PossibleWalk : Bor (List ℕ) → ℕ → ℕ → ℕ → Allowance → Option (Cuts × Purse) → Type 0
 PossibleWalk s q at left a x =
-    MatchOption x (possible (length s.now) q at left a ≡ false) (λ y. (possible (length s.now) q at left a ≡ true) × RowOf s.now at q left y.0 × (y.1.allowance ≡ a))
+    MatchOption x (possible (length s.now) q at left a ≡ false) (λ y. (possible (length s.now) q at left a ≡ true) × RowOf s.now at q left y.0.row × (y.1.allowance ≡ a))
 
 pub record Resumed (a : Allowance) (r o : Outcome (List ℕ)) : Type 0 where
   pub left : o.allowance.left ≡ a.left - (r.allowance.spent - a.spent)

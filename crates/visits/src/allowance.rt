@@ -10,7 +10,7 @@ pub struct Allowance {
 }
 
 // An allowance whose pieces, left and spent, can be counted together.
-#[derive(Clone, Copy)]
+#[derive(Clone, Copy, Debug, PartialEq, Eq)]
 pub(crate) struct Purse {
     pub(crate) allowance: Allowance,
     ghost counted: { allowance.left + allowance.spent < 2 ^ 32 },

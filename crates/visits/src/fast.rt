@@ -11,8 +11,9 @@ ghost use Rattle.visits.specs.Replies.{tells};
 use super::alive::{after_top, narrow, top};
 use super::allowance::{Outcome, Purse, Verdict};
 use super::memory::{Slot, keep, look, slot_of};
+use super::opening::next_open;
 use super::reply::{Reply, last, pay};
-use super::words::{given, next_open, number_in};
+use super::words::{given, number_in};
 
 // Visits a piece that the cut n meets, with the cuts below n left: it meets those of them that have a digit in `live`.
 pub(crate) fn visit(

@@ -3,6 +3,7 @@
 
 mod alive;
 mod allowance;
+mod cuts;
 mod fast;
 mod load;
 mod long;

@@ -5,6 +5,7 @@ ghost use Rattle.format.specs.Bytes.{codes};
 ghost use Rattle.visits.specs.Words.{cube_of_words};
 ghost use Rattle.visits.specs.Loading.{cut_in, HoldsBytes, Loaded};
 
+use super::cuts::Cuts;
 use cube::Row;
 
 // The cut of row m: the last cut is row 0.
@@ -50,12 +51,12 @@ pub(crate) fn load(cube: &[u8]) -> [u64; 10]
 }
 
 // The cuts in rows of words.
-pub(crate) fn load_cuts(table: &mut [[u64; 10]], cuts: Row)
-    requires { (cuts.size ≤ 80) × (cuts.count ≤ length table.old) }
-    ensures { Loaded cuts.entry table.new cuts.entry.count }
+pub(crate) fn load_cuts(table: &mut [[u64; 10]], cuts: Cuts)
+    requires { cuts.row.count ≤ length table.old }
+    ensures { Loaded cuts.entry.row table.new cuts.entry.row.count }
 {
-    for m in 0..cuts.count {
-        table[m] = load(cut_of(cuts, m));
+    for m in 0..cuts.row.count {
+        table[m] = load(cut_of(cuts.row, m));
     }
 }
 

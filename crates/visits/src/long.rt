@@ -12,12 +12,13 @@ ghost use Rattle.visits.specs.Replies.{tells};
 
 use super::alive::{after_top, top};
 use super::allowance::{Outcome, Purse};
+use super::cuts::Cuts;
 use super::fast;
 use super::load::{cut_of, load, load_cuts};
 use super::memory::{EMPTY, Slot};
 use super::reply::{Reply, in_bytes, last};
 use super::table::{alive_of, enter_all};
-use cube::{Row, meets};
+use cube::meets;
 
 // Visits a piece that meets those of the cuts below n that have a digit in `alive`, and the cut n as well where it is the `first`.
 fn begin(
@@ -44,19 +45,19 @@ fn begin(
 }
 
 // As `visit`, over words.
-pub(crate) fn long_walk(piece: [u8; 80], row: Row, a: Purse) -> Outcome<[u8; 80]>
-    requires { (row.size ≤ 80) × (row.count ≤ 65) }
-    ensures { says row.entry.size result ≡ settle a.allowance (visit (cubes_of row.entry) (cube_of row.entry.size piece)) }
+pub(crate) fn long_walk(piece: [u8; 80], cuts: Cuts, a: Purse) -> Outcome<[u8; 80]>
+    ensures { says cuts.entry.row.size result ≡ settle a.allowance (visit (cubes_of cuts.entry.row) (cube_of cuts.entry.row.size piece)) }
 {
+    let row = cuts.row;
     let base = &piece[..row.size];
-    let mut cuts = [[0u64; 10]; 65];
-    load_cuts(&mut cuts, row);
+    let mut table = [[0u64; 10]; 65];
+    load_cuts(&mut table, cuts);
     // The last 64 cuts have a digit.
     let n = row.count.min(64);
     let mut against = [0u64; 640];
-    enter_all(&mut against, &cuts, n);
+    enter_all(&mut against, &table, n);
     let alive = alive_of(base, row, n);
     let first = n < row.count && meets(base, cut_of(row, n));
     let mut slots = [EMPTY; 251];
-    in_bytes(begin(load(base), n, first, alive, a, &cuts, &against, &mut slots))
+    in_bytes(begin(load(base), n, first, alive, a, &table, &against, &mut slots))
 }

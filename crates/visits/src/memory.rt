@@ -7,7 +7,7 @@ use super::alive::{after_top, top};
 
 // A walk: what the pieces that are like its piece admit, what the cuts that they meet have in common, these cuts, and how many pieces it has, where
 // one is remembered.
-#[derive(Clone, Copy)]
+#[derive(Clone, Copy, Debug, PartialEq, Eq)]
 pub(crate) struct Slot {
     cube: [u64; 10],
     common: [u64; 10],

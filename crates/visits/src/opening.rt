@@ -1,46 +1,82 @@
-// The positions that a cut fixes and a piece leaves free, found by bytes.
-ghost use Rattle.std.specs.Prelude.{◌≡◌, ◌*◌, ◌/◌, ◌≤◌, length};
-ghost use Rattle.std.specs.Int.Count.{count_leading_zeros};
-ghost use Rattle.format.specs.Bytes.{is_free, codes};
-ghost use Rattle.visits.specs.Opening.{is_fixed, marks, openings, first_open, FirstOpen};
+// The positions that a cut fixes and a piece leaves free, in cubes of bytes and of words alike.
+ghost use Rattle.std.specs.Prelude.{◌≡◌, ℕ, List, ◌*◌, ◌^◌, ◌≤◌, ◌<◌};
+ghost use Rattle.model.specs.Cube.{Cube};
+ghost use Rattle.format.specs.Bytes.{codes};
+ghost use Rattle.visits.specs.Opening.{FirstOpen};
+ghost use Rattle.visits.specs.Words.{cube_of_words, Openings};
+ghost use Rattle.visits.specs.Places.{CodesOf, Passed, byte-few, byte-codes, word-few, word-codes};
 
-// A digit 1 of base 4 for each place of a byte that holds code 3.
-fn free_marks(x: u8) -> u8
-    ensures { result ≡ marks is_free x }
-{
-    x & (x >> 1) & 0x55
+// A number whose places hold codes, and a cube in a row of such numbers.
+pub(crate) trait Places: Copy {
+    ghost PLACES: { ℕ };
+
+    ghost word: { Self → ℕ };
+
+    ghost cube: { List Self → Cube };
+
+    const PLACES: usize;
+
+    // The number as a word, whose last places are its own.
+    fn word(self) -> u64
+        ensures { (result ≡ word self) × (result < 2 ^ (2 * PLACES)) };
+
+    ghost few: { PLACES ≤ 32 };
+
+    ghost coded: { CodesOf PLACES word cube };
 }
 
-// A digit 1 of base 4 for each place of a byte that holds code 1 or 2.
-fn fixed_marks(y: u8) -> u8
-    ensures { result ≡ marks is_fixed y }
-{
-    (y ^ (y >> 1)) & 0x55
+impl Places for u8 {
+    ghost PLACES = { 4 };
+
+    ghost word = { λ x. x };
+
+    ghost cube = { codes };
+
+    const PLACES: usize = 4;
+
+    fn word(self) -> u64 {
+        self.into()
+    }
+
+    ghost few = { byte-few };
+
+    ghost coded = { byte-codes };
 }
 
-// A digit 1 of base 4 for each place where a cut's byte y opens a piece's byte x.
-fn open_marks(x: u8, y: u8) -> u8
-    ensures { result ≡ openings x y }
-{
-    free_marks(x) & fixed_marks(y)
+impl Places for u64 {
+    ghost PLACES = { 32 };
+
+    ghost word = { λ x. x };
+
+    ghost cube = { cube_of_words };
+
+    const PLACES: usize = 32;
+
+    fn word(self) -> u64 {
+        self
+    }
+
+    ghost few = { word-few };
+
+    ghost coded = { word-codes };
 }
 
-// The place of the first digit 1, and 4 where there is none.
-fn first_place(m: u8) -> usize
-    ensures { (result ≡ count_leading_zeros 8 m / 2) × (result ≤ 4) }
+// A digit 1 of base 4 for each place where a cut's word y opens a piece's word x.
+fn open_marks(x: u64, y: u64) -> u64
+    ensures { Openings x y result }
 {
-    (u8::leading_zeros(m) / 2) as usize
+    x & (x >> 1) & (y ^ (y >> 1)) & 0x5555555555555555
 }
 
-// The first position that the cut opens; the bytes before `from` have none.
-pub(crate) fn next_open(near: &[u8], cut: &[u8], from: usize) -> Option<usize>
-    requires { (length near.now ≡ length cut.now) × (length near.now ≤ 80) × (4 * from ≤ first_open (codes near.now) (codes cut.now)) }
-    ensures { FirstOpen (codes near.now) (codes cut.now) result }
+// The first position that the cut opens; the numbers before `from` have none.
+pub(crate) fn next_open<T: Places>(near: &[T], cut: &[T], from: usize) -> Option<usize>
+    requires { Passed T.PLACES T.cube near.now cut.now from }
+    ensures { FirstOpen (T.cube near.now) (T.cube cut.now) result }
 {
     for b in from..near.len() {
-        let m = open_marks(near[b], cut[b]);
-        if m != 0 {
-            return Some(4 * b + first_place(m));
+        let marks = open_marks(near[b].word(), cut[b].word());
+        if let Some(top) = marks.checked_ilog2() {
+            return Some(T::PLACES * b + (T::PLACES - 1 - top as usize / 2));
         }
     }
     None

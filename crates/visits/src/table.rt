@@ -7,7 +7,8 @@ ghost use Rattle.visits.specs.Loading.{Entered, Met};
 
 use super::alive::digit_of;
 use super::load::cut_of;
-use super::words::{given, next_open, number_in};
+use super::opening::next_open;
+use super::words::{given, number_in};
 use cube::{Row, meets};
 
 // Enters a cut, whose digit is `one`, at each value that it clashes with.

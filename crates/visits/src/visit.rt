@@ -7,6 +7,7 @@ ghost use Rattle.visits.specs.Cuts.{cubes_of, SplitFirst, FirstMet};
 ghost use Rattle.visits.specs.Settle.{settle, says};
 
 use super::allowance::{Outcome, Purse, Verdict};
+use super::cuts::Cuts;
 use super::opening::next_open;
 use cube::{Row, code_at, meets, set_code};
 
@@ -49,9 +50,9 @@ fn other(y: u8) -> u8
 }
 
 // Visits the piece, with the cuts left.
-pub(crate) fn visit(piece: [u8; 80], cuts: Row, a: Purse) -> Outcome<[u8; 80]>
-    requires { cuts.size ≤ 80 }
-    ensures { says cuts.entry.size result ≡ settle a.allowance (visit (cubes_of cuts.entry) (cube_of cuts.entry.size piece)) }
+// Kept: the piece, the cuts and the purse are no struct, since a child has others of all three, and a short walk another purse.
+pub(crate) fn visit(piece: [u8; 80], cuts: Cuts, a: Purse) -> Outcome<[u8; 80]>
+    ensures { says cuts.entry.row.size result ≡ settle a.allowance (visit (cubes_of cuts.entry.row) (cube_of cuts.entry.row.size piece)) }
 {
     if a.allowance.left == 0 {
         return Outcome {
@@ -61,8 +62,8 @@ pub(crate) fn visit(piece: [u8; 80], cuts: Row, a: Purse) -> Outcome<[u8; 80]>
         };
     }
     let mut have = a.spend();
-    let q = cuts.size;
-    let Some((cut, rest)) = first_met(&piece[..q], cuts) else {
+    let q = cuts.row.size;
+    let Some((cut, rest)) = first_met(&piece[..q], cuts.row) else {
         return Outcome {
             allowance: have.allowance,
             verdict: Verdict::Survives,
@@ -74,7 +75,7 @@ pub(crate) fn visit(piece: [u8; 80], cuts: Row, a: Purse) -> Outcome<[u8; 80]>
     while let Some(i) = next {
         let y = code_at(cut, 0, i);
         set_code(&mut near, i, other(y));
-        let reply = visit(near, rest, have);
+        let reply = visit(near, Cuts { row: rest }, have);
         let Verdict::Covered = reply.verdict else {
             return reply;
         };

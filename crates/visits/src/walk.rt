@@ -7,6 +7,7 @@ ghost use Rattle.visits.specs.Settle.{settle, says};
 ghost use Rattle.visits.specs.Walked.{walked, PossibleWalk, Resumed};
 
 use super::allowance::{Allowance, Outcome, Purse, Verdict};
+use super::cuts::Cuts;
 use super::long::long_walk;
 use super::visit::visit;
 use cube::Row;
@@ -26,9 +27,8 @@ fn resumed(a: Allowance, mut r: Outcome<[u8; 80]>) -> Outcome<[u8; 80]>
 }
 
 // As `visit`, and fast where the walk is long.
-fn walk_within(piece: [u8; 80], cuts: Row, a: Purse) -> Outcome<[u8; 80]>
-    requires { (cuts.size ≤ 80) × (cuts.count ≤ 65) }
-    ensures { says cuts.entry.size result ≡ settle a.allowance (visit (cubes_of cuts.entry) (cube_of cuts.entry.size piece)) }
+fn walk_within(piece: [u8; 80], cuts: Cuts, a: Purse) -> Outcome<[u8; 80]>
+    ensures { says cuts.entry.row.size result ≡ settle a.allowance (visit (cubes_of cuts.entry.row) (cube_of cuts.entry.row.size piece)) }
 {
     if a.allowance.left <= FEW {
         return visit(piece, cuts, a);
@@ -44,14 +44,15 @@ fn walk_within(piece: [u8; 80], cuts: Row, a: Purse) -> Outcome<[u8; 80]>
     long_walk(piece, cuts, a)
 }
 
-// The cuts and the allowance of a walk, where it can be: its cubes are no wider than those of a header, its cuts no more than inclusion has, they stand in the bytes, and its allowance is one.
+// The cuts and the allowance of a walk, where it can be: its cubes are no wider than those of a header, its cuts no more than inclusion has, they stand in
+// the bytes, and its allowance is one.
 fn possible<'a>(
     s: &'a [u8],
     q: usize,
     at: usize,
     left: usize,
     a: Allowance,
-) -> Option<(Row<'a>, Purse)>
+) -> Option<(Cuts<'a>, Purse)>
     ensures { PossibleWalk s.entry q at left a result }
 {
     if 80 < q {
@@ -61,7 +62,8 @@ fn possible<'a>(
         return None;
     }
     a.left.checked_add(a.spent)?;
-    Some((Row::new(s, at, q, left)?, Purse::of(a)))
+    let row = Row::new(s, at, q, left)?;
+    Some((Cuts { row }, Purse::of(a)))
 }
 
 // Walks the piece in the first q bytes of `piece` with the `left` cuts of q bytes that stand in s from `at` on. Where that cannot be, nothing is visited.

@@ -3,6 +3,7 @@
 --   capped-large               a number at the cap or above it
 --   capped-power               a power of 2, which is shifted where it is below the cap
 --   least-capped               the smaller of two numbers may be taken before the cap or after it
+--   first-smaller, second-smaller   the same, where it is known which of the two it is
 use Prim.Native.Nat.{ℕ, zero, suc, ◌+◌, ◌*◌, ◌%◌, ◌^◌, ◌≤◌, ◌<◌, min}
 use native.Mathlib.Nat.{mod-eq_of_lt, mul-le-mul_left, zero-mul, one-mul, le_trans, min-eq_left, min-eq_right}
 use native.Mathlib.Omega.{arith}
@@ -61,3 +62,10 @@ least-capped m n {a} {b} ea eb = ⊎_elim first second (cases_lt m n)
     second l =
         let k : b ≤ a = omega (arith, capped-rises n m l) in
         min-eq_left k ∙ eb ∙ ap capped (sym (min-eq_right l))
+
+module _ (m n : ℕ) {a b : ℕ} (ea : a ≡ capped m) (eb : b ≡ capped n) where
+  pub second-smaller : b ≤ a → b ≡ capped (min m n)
+  second-smaller h = sym (min-eq_left h) ∙ least-capped m n ea eb
+
+  pub first-smaller : a ≤ b → a ≡ capped (min m n)
+  first-smaller h = sym (min-eq_right h) ∙ least-capped m n ea eb

@@ -1,4 +1,5 @@
 // Whether no header is in a difference or a region, or one that is.
+// Kept: the calls take s, allowance and out one by one, since their signatures are what the desk and the statement page call.
 ghost use Rattle.std.specs.Prelude.{◌≡◌, ◌+◌, ◌^◌, ◌<◌, length};
 ghost use Rattle.format.specs.Bytes.{cube_len};
 ghost use Rattle.format.specs.Records.{width_of};

@@ -1,6 +1,6 @@
 -- `region::lent::record_refusal` meets its contract.
-use Rattle.region.proofs.Alone.{record-tested}
+use Rattle.format.proofs.Lending.{lent-tested}
 use Rattle.region.proofs.lent.record_refusal.Goals as goal
 
 pub returns : goal.returns
-returns c = let x = c.args in record-tested x.w x.s.now x.operand c.alone_fault.result c.map_err.result c.alone_fault.ensures c.map_err.ensures.cases
+returns c = lent-tested _ c.args.operand c.alone_fault.result c.of_lent.result c.alone_fault.ensures c.of_lent.ensures

@@ -4,19 +4,16 @@ use borrow.Author.Rules.{rules}
 use Prim.Native.Nat.{◌/◌, ◌≤◌}
 use native.Mathlib.Nat.{pos_of_ne-zero}
 use native.Mathlib.Omega.{arith}
-use mathlib.Core.Path.{◌≡◌, sym, ap, ◌∙◌}
+use mathlib.Core.Path.{refl, sym, ap, ◌∙◌}
 use lib.ListN.{length, set, length-set}
 use lib.Seq.{set-set}
 use lib.Pow.{pow_mono}
-use Rattle.model.specs.Walk.{visit as walked}
 use Rattle.model.proofs.Walking.{walk-positive}
-use Rattle.visits.specs.Words.{cube_of_words, cuts_below}
-use Rattle.visits.specs.Memory.{Memory}
-use Rattle.visits.specs.Replies.{tells}
-use Rattle.visits.proofs.Settle.{settle-none, settle-keeps}
-use Rattle.visits.proofs.Meeting.{alive-fewer, alive-meets, alive-top, alive-passed, alive-none, against-fewer}
-use Rattle.visits.proofs.Paying.{covered-finds}
-use Rattle.visits.proofs.Narrowing.{open-inside, opened, took-cube, child-alive, agreed-alive, child-stops, child-covered, none-opens, later_first, begun, survives-stops, tells-covered}
+use Rattle.visits.specs.Words.{cube_of_words}
+use Rattle.visits.proofs.Settle.{settle-none}
+use Rattle.visits.proofs.Meeting.{alive-fewer, alive-meets, alive-top, alive-none, against-fewer}
+use Rattle.visits.proofs.Places.{words-passed}
+use Rattle.visits.proofs.Narrowing.{open-inside, opened, took-cube, child-alive, agreed-alive, child-stops, child-covered, none-opens, later_first, begun, survives-stops, Told, told-known, told-visited, told-stops, told-sum, told-count}
 use Rattle.visits.proofs.fast.+visit.Goals as goal
 use Rattle.visits.proofs.fast.+visit.Goals.{in-Some-known, in-None, then-is_none, else-is_none}
 
@@ -69,17 +66,14 @@ returns-in_default-verdict t c =
     let v = c.loop-next.invariant in
     let o = opened _ _ _ _ _ c.loop-next.invariant.1 c.in-Some.is c.number_in-y.ensures.0 in
     let a = child-alive _ _ _ _ v.0 o g.cuts.now g.n g.against.now _ v.3 c.requires.3 c.given.result _ c.given.ensures c.narrow-alive.ensures in
-    let r : (tells c.match-known.reply ≡ settle c.loop-next.have.allowance (walked (cuts_below g.cuts.now g.n) (cube_of_words (set c.loop-next.near (c.in-Some.i / 32) c.given.result)))) × Memory g.cuts.now c.match-known.slots =
+    let r = told-stops g.cuts.now g.n c.loop-next.have.allowance _ c.match-known.reply c.match-known.slots (
     elim c.match-known.branch [
-      | in-Some-known w ↦ rw (w.reply-is, w.slots-is) (w.pay-reply.ensures _ (c.look-known.ensures _ w.in-Some-known.is _ v.4 _ a), v.4)
-      | in-None w ↦
-          rw (w.reply-is, w.slots-is) (
-            w.visit-reply.ensures.said ∙ ap (settle c.loop-next.have.allowance) (sym (alive-passed _ _ _ _ _ a w.top-m.ensures.1 (alive-top _ _ _ a.0 w.top-m.ensures.2))),
-            w.visit-reply.ensures.kept,
-          )
-    ] in
+      | in-Some-known w ↦ told-known _ _ _ _ _ a _ _ w.reply-is _ _ w.slots-is v.4 _ (c.look-known.ensures _ w.in-Some-known.is _ v.4 _ a) w.pay-reply.ensures
+      | in-None w ↦ told-visited _ _ _ _ _ a _ _ w.reply-is _ _ w.slots-is w.visit-reply.ensures.kept _ w.top-m.ensures w.visit-reply.ensures.said
+    ])
+    _ _ _ _ v.0 o _ c.given.ensures refl c.in_default-verdict.not-Covered in
     record {
-      said = sym ((begun _ _ _ _ _ (pos_of_ne-zero c.if-a-eq0.false) c.spend-have.ensures c.requires.1 ∙ v.2) ∙ child-stops _ _ _ _ v.0 o _ _ _ c.given.ensures _ r.0 c.in_default-verdict.not-Covered);
+      said = sym ((begun _ _ _ _ _ (pos_of_ne-zero c.if-a-eq0.false) c.spend-have.ensures c.requires.1 ∙ v.2) ∙ r.0);
       kept = r.1;
     }
 
@@ -89,16 +83,11 @@ overflow_sub-count t c =
     let v = c.loop-next.invariant in
     let o = opened _ _ _ _ _ c.loop-next.invariant.1 c.in-Some.is c.number_in-y.ensures.0 in
     let a = child-alive _ _ _ _ v.0 o g.cuts.now g.n g.against.now _ v.3 c.requires.3 c.given.result _ c.given.ensures c.narrow-alive.ensures in
-    let r : (tells c.match-known.reply ≡ settle c.loop-next.have.allowance (walked (cuts_below g.cuts.now g.n) (cube_of_words (set c.loop-next.near (c.in-Some.i / 32) c.given.result)))) × Memory g.cuts.now c.match-known.slots =
+    (told-count g.cuts.now g.n c.loop-next.have.allowance _ c.match-known.reply c.match-known.slots (
     elim c.match-known.branch [
-      | in-Some-known w ↦ rw (w.reply-is, w.slots-is) (w.pay-reply.ensures _ (c.look-known.ensures _ w.in-Some-known.is _ v.4 _ a), v.4)
-      | in-None w ↦
-          rw (w.reply-is, w.slots-is) (
-            w.visit-reply.ensures.said ∙ ap (settle c.loop-next.have.allowance) (sym (alive-passed _ _ _ _ _ a w.top-m.ensures.1 (alive-top _ _ _ a.0 w.top-m.ensures.2))),
-            w.visit-reply.ensures.kept,
-          )
-    ] in
-    (covered-finds _ _ _ (sym r.0 ∙ tells-covered c.match-known.reply c.in-Covered.is)).0
+      | in-Some-known w ↦ told-known _ _ _ _ _ a _ _ w.reply-is _ _ w.slots-is v.4 _ (c.look-known.ensures _ w.in-Some-known.is _ v.4 _ a) w.pay-reply.ensures
+      | in-None w ↦ told-visited _ _ _ _ _ a _ _ w.reply-is _ _ w.slots-is w.visit-reply.ensures.kept _ w.top-m.ensures w.visit-reply.ensures.said
+    ]) c.in-Covered.is).0
 
 pub of-have-requires : goal.of-have-requires
 of-have-requires t c =
@@ -106,16 +95,15 @@ of-have-requires t c =
     let v = c.loop-next.invariant in
     let o = opened _ _ _ _ _ c.loop-next.invariant.1 c.in-Some.is c.number_in-y.ensures.0 in
     let a = child-alive _ _ _ _ v.0 o g.cuts.now g.n g.against.now _ v.3 c.requires.3 c.given.result _ c.given.ensures c.narrow-alive.ensures in
-    let r : (tells c.match-known.reply ≡ settle c.loop-next.have.allowance (walked (cuts_below g.cuts.now g.n) (cube_of_words (set c.loop-next.near (c.in-Some.i / 32) c.given.result)))) × Memory g.cuts.now c.match-known.slots =
-    elim c.match-known.branch [
-      | in-Some-known w ↦ rw (w.reply-is, w.slots-is) (w.pay-reply.ensures _ (c.look-known.ensures _ w.in-Some-known.is _ v.4 _ a), v.4)
-      | in-None w ↦
-          rw (w.reply-is, w.slots-is) (
-            w.visit-reply.ensures.said ∙ ap (settle c.loop-next.have.allowance) (sym (alive-passed _ _ _ _ _ a w.top-m.ensures.1 (alive-top _ _ _ a.0 w.top-m.ensures.2))),
-            w.visit-reply.ensures.kept,
-          )
-    ] in
-    omega (arith, settle-keeps _ _ _ r.0, c.loop-next.have.counted)
+    omega (
+      arith,
+      told-sum g.cuts.now g.n c.loop-next.have.allowance _ c.match-known.reply c.match-known.slots (
+          elim c.match-known.branch [
+            | in-Some-known w ↦ told-known _ _ _ _ _ a _ _ w.reply-is _ _ w.slots-is v.4 _ (c.look-known.ensures _ w.in-Some-known.is _ v.4 _ a) w.pay-reply.ensures
+            | in-None w ↦ told-visited _ _ _ _ _ a _ _ w.reply-is _ _ w.slots-is w.visit-reply.ensures.kept _ w.top-m.ensures w.visit-reply.ensures.said
+          ]),
+      c.loop-next.have.counted,
+    )
 
 pub keep-requires : goal.keep-requires
 keep-requires t c =
@@ -141,7 +129,7 @@ loop-next-smaller t c =
     let v = c.loop-next.invariant in
     let o = opened _ _ _ _ _ c.loop-next.invariant.1 c.in-Some.is c.number_in-y.ensures.0 in
     let p = ap cube_of_words (set-set c.loop-next.near (c.in-Some.i / 32) c.given.result c.given-in-Some.result) ∙ took-cube c.loop-next.near c.in-Some.i _ c.given-in-Some.result v.0 o.inside c.given-in-Some.ensures in
-    omega (arith, o.first, o.inside, (later_first _ _ _ _ _ o p).0)
+    omega (arith, o.first, o.inside, later_first _ _ _ _ _ o p)
 
 pub loop-next-preserved : goal.loop-next-preserved
 loop-next-preserved t c =
@@ -149,23 +137,19 @@ loop-next-preserved t c =
     let v = c.loop-next.invariant in
     let o = opened _ _ _ _ _ c.loop-next.invariant.1 c.in-Some.is c.number_in-y.ensures.0 in
     let a = child-alive _ _ _ _ v.0 o g.cuts.now g.n g.against.now _ v.3 c.requires.3 c.given.result _ c.given.ensures c.narrow-alive.ensures in
-    let r : (tells c.match-known.reply ≡ settle c.loop-next.have.allowance (walked (cuts_below g.cuts.now g.n) (cube_of_words (set c.loop-next.near (c.in-Some.i / 32) c.given.result)))) × Memory g.cuts.now c.match-known.slots =
+    let r : Told g.cuts.now g.n c.loop-next.have.allowance (cube_of_words (set c.loop-next.near (c.in-Some.i / 32) c.given.result)) c.match-known.reply c.match-known.slots =
     elim c.match-known.branch [
-      | in-Some-known w ↦ rw (w.reply-is, w.slots-is) (w.pay-reply.ensures _ (c.look-known.ensures _ w.in-Some-known.is _ v.4 _ a), v.4)
-      | in-None w ↦
-          rw (w.reply-is, w.slots-is) (
-            w.visit-reply.ensures.said ∙ ap (settle c.loop-next.have.allowance) (sym (alive-passed _ _ _ _ _ a w.top-m.ensures.1 (alive-top _ _ _ a.0 w.top-m.ensures.2))),
-            w.visit-reply.ensures.kept,
-          )
+      | in-Some-known w ↦ told-known _ _ _ _ _ a _ _ w.reply-is _ _ w.slots-is v.4 _ (c.look-known.ensures _ w.in-Some-known.is _ v.4 _ a) w.pay-reply.ensures
+      | in-None w ↦ told-visited _ _ _ _ _ a _ _ w.reply-is _ _ w.slots-is w.visit-reply.ensures.kept _ w.top-m.ensures w.visit-reply.ensures.said
     ] in
     let p = ap cube_of_words (set-set c.loop-next.near (c.in-Some.i / 32) c.given.result c.given-in-Some.result) ∙ took-cube c.loop-next.near c.in-Some.i _ c.given-in-Some.result v.0 o.inside c.given-in-Some.ensures in
-    let b = covered-finds _ _ _ (sym r.0 ∙ tells-covered c.match-known.reply c.in-Covered.is) in (
+    let b = told-count _ _ _ _ _ _ r c.in-Covered.is in (
       length-set (set c.loop-next.near (c.in-Some.i / 32) c.given.result) (c.in-Some.i / 32) c.given-in-Some.result ∙ length-set c.loop-next.near (c.in-Some.i / 32) c.given.result ∙ v.0,
-      c.next_open-next-in-Some.ensures.first,
-      rw c.of-have.ensures (v.2 ∙ child-covered _ _ _ _ v.0 o _ _ _ c.given.ensures _ r.0 c.in-Covered.is _ p),
+      c.next_open-next-in-Some.ensures,
+      rw c.of-have.ensures (v.2 ∙ child-covered _ _ _ _ v.0 o _ _ _ c.given.ensures _ r.said c.in-Covered.is _ p),
       rw (set-set c.loop-next.near (c.in-Some.i / 32) c.given.result c.given-in-Some.result)
           (agreed-alive _ _ _ _ v.0 o g.cuts.now g.n g.against.now _ v.3 c.requires.3 c.given-in-Some.result _ c.given-in-Some.ensures c.narrow-met.ensures),
-      elim c.if-is_none.branch [ then-is_none w ↦ rw w.slots-is (w.keep.ensures r.1 _ a b.1) | else-is_none w ↦ rw w.slots-is r.1 ],
+      elim c.if-is_none.branch [ then-is_none w ↦ rw w.slots-is (w.keep.ensures r.memory _ a b.1) | else-is_none w ↦ rw w.slots-is r.memory ],
     )
 
 pub returns-clause-said : goal.returns-clause-said
@@ -178,8 +162,12 @@ next_open-next-requires-in-Some t c =
     let v = c.loop-next.invariant in
     let o = opened _ _ _ _ _ c.loop-next.invariant.1 c.in-Some.is c.number_in-y.ensures.0 in
     let p = ap cube_of_words (set-set c.loop-next.near (c.in-Some.i / 32) c.given.result c.given-in-Some.result) ∙ took-cube c.loop-next.near c.in-Some.i _ c.given-in-Some.result v.0 o.inside c.given-in-Some.ensures in
-    let l = later_first _ _ _ _ _ o p in
-    (l.1, l.2)
+    words-passed _ _ _
+    (length-set (set c.loop-next.near (c.in-Some.i / 32) c.given.result) (c.in-Some.i / 32) c.given-in-Some.result ∙ length-set c.loop-next.near (c.in-Some.i / 32) c.given.result ∙ v.0)
+    (search rules) (omega (arith, later_first _ _ _ _ _ o p))
+
+pub next_open-next-requires : goal.next_open-next-requires
+next_open-next-requires t c = words-passed _ _ _ (search rules) (search rules) (omega arith)
 
 pub number_in-y-requires : goal.number_in-y-requires
 number_in-y-requires t c = open-inside _ _ _ _ c.loop-next.invariant.1 c.in-Some.is

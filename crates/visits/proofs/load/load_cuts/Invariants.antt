@@ -3,4 +3,4 @@ use Rattle.visits.specs.Loading.{Loaded}
 use Rattle.visits.proofs.load.load_cuts.Given as goal
 
 abbrev pub invariant-loop-m : goal.invariant-loop-m
-invariant-loop-m l = Loaded l.cuts l.table l.m
+invariant-loop-m l = Loaded l.cuts.row l.table l.m

@@ -25,16 +25,15 @@ pub begin-requires : goal.begin-requires
 unfolding cube_of
 begin-requires c =
     let g = c.args in
-    let p = c.requires in
     let n = c.min-n.result in
-    let base = rw (front_length g.row.size g.piece (search rules)) at c.load.ensures in
-    let lp = cube-length g.row.size g.piece (search rules) in (
+    let base = rw (front_length g.cuts.row.size g.piece (search rules)) at c.load.ensures in
+    let lp = cube-length g.cuts.row.size g.piece (search rules) in (
       search rules,
       elim c.if-n-row.branch [
-        | then-n-row w ↦ λ e. first-met g.row _ c.load_cuts.ensures _ _ lp base n w.if-n-row.true (ap (λ s. shares _ (codes s)) (sym w.cut_of.ensures) ∙ sym w.meets-first.ensures ∙ sym w.first-is ∙ e)
+        | then-n-row w ↦ λ e. first-met g.cuts.row _ c.load_cuts.ensures _ _ lp base n w.if-n-row.true (ap (λ s. shares _ (codes s)) (sym w.cut_of.ensures) ∙ sym w.meets-first.ensures ∙ sym w.first-is ∙ e)
         | else-n-row w ↦ λ e. absurd (true≢false (sym e ∙ w.first-is ∙ le-ltb _ _ w.if-n-row.false))
       ],
-      loaded-alive g.row _ c.load_cuts.ensures _ _ lp base n _ (omega (arith, c.min-n.ensures)) c.alive_of-alive.ensures,
+      loaded-alive g.cuts.row _ c.load_cuts.ensures _ _ lp base n _ (omega (arith, c.min-n.ensures)) c.alive_of-alive.ensures,
       c.enter_all.ensures,
       memory-fresh _ 251 _ refl,
     )
@@ -43,16 +42,15 @@ pub returns : goal.returns
 unfolding cube_of
 returns c =
     let g = c.args in
-    let p = c.requires in
     let n = c.min-n.result in
-    let base = rw (front_length g.row.size g.piece (search rules)) at c.load.ensures in
-    let lp = cube-length g.row.size g.piece (search rules) in
-    let passed : visit (cuts_below c.load_cuts.new.table (cond c.if-n-row.first (suc n) n)) (cube_of_words c.load.result) ≡ visit (cuts_below c.load_cuts.new.table g.row.count) (cube_of_words c.load.result) =
+    let base = rw (front_length g.cuts.row.size g.piece (search rules)) at c.load.ensures in
+    let lp = cube-length g.cuts.row.size g.piece (search rules) in
+    let passed : visit (cuts_below c.load_cuts.new.table (cond c.if-n-row.first (suc n) n)) (cube_of_words c.load.result) ≡ visit (cuts_below c.load_cuts.new.table g.cuts.row.count) (cube_of_words c.load.result) =
     elim c.if-n-row.branch [
-      | then-n-row w ↦ first-passed g.row _ c.load_cuts.ensures _ _ lp base n _ c.min-n.ensures p.1 w.if-n-row.true (w.first-is ∙ w.meets-first.ensures ∙ ap (λ s. shares _ (codes s)) w.cut_of.ensures)
-      | else-n-row w ↦ rw (w.first-is, le-ltb _ _ w.if-n-row.false) (first-none g.row _ c.load_cuts.ensures _ _ lp base n c.min-n.ensures w.if-n-row.false)
+      | then-n-row w ↦ first-passed g.cuts.row _ c.load_cuts.ensures _ _ lp base n _ c.min-n.ensures g.cuts.few w.if-n-row.true (w.first-is ∙ w.meets-first.ensures ∙ ap (λ s. shares _ (codes s)) w.cut_of.ensures)
+      | else-n-row w ↦ rw (w.first-is, le-ltb _ _ w.if-n-row.false) (first-none g.cuts.row _ c.load_cuts.ensures _ _ lp base n c.min-n.ensures w.if-n-row.false)
     ] in
-    in-bytes-says g.row.size (320 - 4 * g.row.size) g.a.allowance _ c.begin.result c.in_bytes.result
+    in-bytes-says g.cuts.row.size (320 - 4 * g.cuts.row.size) g.a.allowance _ c.begin.result c.in_bytes.result
     (λ w e. survivor-length _ _ w e ∙ lp)
-    (c.begin.ensures ∙ ap (settle g.a.allowance) (passed ∙ sym (whole g.row _ c.load_cuts.ensures _ _ lp base)))
+    (c.begin.ensures ∙ ap (settle g.a.allowance) (passed ∙ sym (whole g.cuts.row _ c.load_cuts.ensures _ _ lp base)))
     c.in_bytes.ensures

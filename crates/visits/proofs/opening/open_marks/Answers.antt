@@ -1,6 +1,6 @@
 -- `visits::opening::open_marks` meets its contract.
-use Rattle.visits.proofs.Marks.{and-marks}
+use Rattle.visits.proofs.Digits.{openings-right}
 use Rattle.visits.proofs.opening.open_marks.Goals as goal
 
 pub returns : goal.returns
-returns c = rw (c.free_marks.ensures, c.fixed_marks.ensures) (and-marks _ _)
+returns c = openings-right c.args.x c.args.y

@@ -1,7 +1,8 @@
 -- `visits::table::enter` meets its contract.
 use Rattle.visits.proofs.Entering.{fresh, free-words, enter-fits, enter-turn, enter-end, agree-turn}
+use Rattle.visits.proofs.Places.{words-passed}
 use Rattle.visits.proofs.Narrowing.{open-inside, opened, took-cube, later_first}
-use Rattle.visits.proofs.WordCubes.{words-length}
+use Rattle.visits.specs.Places.{words-length}
 use Rattle.visits.specs.Words.{cube_of_words}
 use lib.ListN.{length-set}
 use mathlib.Core.Logic.{inl}
@@ -12,7 +13,7 @@ use Prim.Native.Nat.{◌+◌, ◌-◌, ◌*◌, ◌/◌}
 use Rattle.visits.proofs.table.enter.Goals as goal
 
 pub loop-next-init : goal.loop-next-init
-loop-next-init c = (refl, c.next_open-next.ensures.first, fresh c.args.against.now c.args.one, λ j h. inl (free-words j h))
+loop-next-init c = (refl, c.next_open-next.ensures, fresh c.args.against.now c.args.one, λ j h. inl (free-words j h))
 
 pub overflow_sub-against : goal.overflow_sub-against
 overflow_sub-against c = (opened _ _ _ _ _ c.loop-next.invariant.1 c.in-Some.is c.number_in-y.ensures.0).most
@@ -43,7 +44,7 @@ pub loop-next-smaller : goal.loop-next-smaller
 loop-next-smaller c =
     let o = opened _ _ _ _ _ c.loop-next.invariant.1 c.in-Some.is c.number_in-y.ensures.0 in
     let p = later_first _ _ _ _ _ o (took-cube c.loop-next.near c.in-Some.i _ c.given.result c.loop-next.invariant.0 o.inside c.given.ensures) in
-    omega (arith, o.first, o.inside, p.0)
+    omega (arith, o.first, o.inside, p)
 
 pub loop-next-preserved : goal.loop-next-preserved
 loop-next-preserved c =
@@ -52,7 +53,7 @@ loop-next-preserved c =
     let o = opened _ _ _ _ _ c.loop-next.invariant.1 c.in-Some.is c.number_in-y.ensures.0 in
     let t = took-cube c.loop-next.near c.in-Some.i _ c.given.result c.loop-next.invariant.0 o.inside c.given.ensures in (
       length-set c.loop-next.near (c.in-Some.i / 32) c.given.result ∙ v.0,
-      c.next_open-next-in-Some.ensures.first,
+      c.next_open-next-in-Some.ensures,
       enter-turn g.against.now (cube_of_words c.loop-next.near) g.one c.loop-next.against v.2 c.in-Some.i c.number_in-y.result o.inside o.least o.most o.unfixed (words-length c.loop-next.near) _ (search rules) t,
       agree-turn (cube_of_words c.loop-next.near) (cube_of_words g.cut.now) c.in-Some.i _ _ (omega (arith, words-length c.loop-next.near, o.inside)) t o.fixed v.3,
     )
@@ -84,4 +85,7 @@ pub next_open-next-requires-in-Some : goal.next_open-next-requires-in-Some
 next_open-next-requires-in-Some c =
     let o = opened _ _ _ _ _ c.loop-next.invariant.1 c.in-Some.is c.number_in-y.ensures.0 in
     let p = later_first _ _ _ _ _ o (took-cube c.loop-next.near c.in-Some.i _ c.given.result c.loop-next.invariant.0 o.inside c.given.ensures) in
-    (p.1, p.2)
+    words-passed _ _ _ (length-set c.loop-next.near (c.in-Some.i / 32) c.given.result ∙ c.loop-next.invariant.0) (search rules) (omega (arith, p))
+
+pub next_open-next-requires : goal.next_open-next-requires
+next_open-next-requires c = words-passed _ _ _ (search rules) (search rules) (omega arith)

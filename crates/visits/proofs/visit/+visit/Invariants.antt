@@ -22,4 +22,4 @@ abbrev pub decreases-loop-next : goal.decreases-loop-next
 decreases-loop-next l = 4 * l.q - first_open (cube_of l.q l.near) (codes l.cut)
 
 abbrev pub decreases-visit : goal.decreases-visit
-decreases-visit l = l.cuts.count
+decreases-visit l = l.cuts.row.count

@@ -1,6 +1,6 @@
 -- `visits::visit::first_met` meets its contract.
 use mathlib.Core.Path.{sym, ◌∙◌}
-use Rattle.visits.proofs.Cuts.{cut-passed, cut-found}
+use Rattle.visits.proofs.CutRows.{cut-passed, cut-found}
 use Rattle.visits.proofs.visit.first_met.Goals as goal
 
 pub loop-cut-preserved : goal.loop-cut-preserved

@@ -1,5 +1,5 @@
 -- `visits::visit::split_first` meets its contract.
-use Rattle.visits.proofs.Cuts.{row-none, row-first}
+use Rattle.visits.proofs.CutRows.{row-none, row-first}
 use borrow.Author.Rules.{rules}
 use Rattle.visits.proofs.visit.split_first.Goals as goal
 

@@ -22,8 +22,8 @@ returns-in_err-checked_add c =
     let none : possible (length g.s.now) g.q g.at g.left g.a ≡ false = unfit _ _ _ _ _ (λ f. omega (arith, over, f.3)) in
     search (rules, none)
 
-pub returns-in_err-new : goal.returns-in_err-new
-returns-in_err-new c =
+pub returns-in_err-row : goal.returns-in_err-row
+returns-in_err-row c =
     let g = c.args in
     let short : length g.s.now < g.at + g.left * g.q = search rules in
     let none : possible (length g.s.now) g.q g.at g.left g.a ≡ false = unfit _ _ _ _ _ (λ f. omega (arith, short, f.1)) in
@@ -36,5 +36,5 @@ pub returns : goal.returns
 returns c =
     let g = c.args in
     let fits : g.a.left + g.a.spent < 2 ^ 32 = search rules in
-    let row = c.in_ok-new.ensures in
+    let row = c.in_ok-row.ensures in
     (fits-possible _ _ _ _ _ (c.if-q-gt80.false, row.within, c.if-left-gt65.false, fits), row, c.of.ensures)

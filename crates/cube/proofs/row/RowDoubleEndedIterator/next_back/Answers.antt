@@ -1,4 +1,3 @@
-use Rattle.std.proofs.Common.{rules}
 use Rattle.cube.proofs.row.RowDoubleEndedIterator.next_back.Goals as goal
 use Rattle.cube.proofs.Rows.{slices-back, slices-fewer}
 

@@ -12,62 +12,35 @@ use Rattle.format.specs.Bytes.{cube_len, write_cube}
 use Rattle.format.specs.Records.{cubes_bytes, front_bytes}
 use Rattle.format.specs.Told.{over}
 use Rattle.cube.proofs.Laying.{over-more, part-back, behind-back}
-use Rattle.region.proofs.Writing.{front_length, record-len, front-put}
-use Rattle.fields.proofs.Fielding.{free_bytes, cuts-length}
+use Rattle.region.proofs.Writing.{front_length, front-put}
+use Rattle.fields.proofs.Fielding.{equal-room, free_bytes, cuts-length}
 use Rattle.fields.proofs.equality.Pairs.put_record.Goals as goal
 
 pub overflow_add-cuts : goal.overflow_add-cuts
 overflow_add-cuts c =
-    let few : 2 * c.args.self.n ≤ most_cuts = omega (arith, c.requires.few) in
-    let short : cube_len c.args.self.w ≤ widest_cube = omega (arith, c.args.self.narrow) in
-    let room : c.front_len-base.result + (2 * c.args.self.n + 1) * c.cube_len-size.result ≤ length c.args.out.now =
-    let whole = rw (record-len (2 * c.args.self.n) (cube_len c.args.self.w) few short) at c.requires.room in
-    omega (arith, rw (← c.cube_len-size.ensures) at whole, c.front_len-base.ensures) in
-    omega (arith, room, c.well_formed)
+    omega (arith, (equal-room c.args.self.n c.args.self.w _ _ (length c.args.out.now) c.requires.few c.args.self.narrow c.cube_len-size.ensures c.front_len-base.ensures c.requires.room), c.well_formed)
 
 pub slice_bounds-fill-end : goal.slice_bounds-fill-end
 slice_bounds-fill-end c =
-    let few : 2 * c.args.self.n ≤ most_cuts = omega (arith, c.requires.few) in
-    let short : cube_len c.args.self.w ≤ widest_cube = omega (arith, c.args.self.narrow) in
-    let room : c.front_len-base.result + (2 * c.args.self.n + 1) * c.cube_len-size.result ≤ length c.args.out.now =
-    let whole = rw (record-len (2 * c.args.self.n) (cube_len c.args.self.w) few short) at c.requires.room in
-    omega (arith, rw (← c.cube_len-size.ensures) at whole, c.front_len-base.ensures) in
-    omega (arith, room, c.put_front.auto.out)
+    omega (arith, (equal-room c.args.self.n c.args.self.w _ _ (length c.args.out.now) c.requires.few c.args.self.narrow c.cube_len-size.ensures c.front_len-base.ensures c.requires.room), c.put_front.auto.out)
 
 pub slice_bounds-put_cuts-count : goal.slice_bounds-put_cuts-count
 slice_bounds-put_cuts-count c =
-    let few : 2 * c.args.self.n ≤ most_cuts = omega (arith, c.requires.few) in
-    let short : cube_len c.args.self.w ≤ widest_cube = omega (arith, c.args.self.narrow) in
-    let room : c.front_len-base.result + (2 * c.args.self.n + 1) * c.cube_len-size.result ≤ length c.args.out.now =
-    let whole = rw (record-len (2 * c.args.self.n) (cube_len c.args.self.w) few short) at c.requires.room in
-    omega (arith, rw (← c.cube_len-size.ensures) at whole, c.front_len-base.ensures) in
-    omega (arith, room, c.put_front.auto.out)
+    omega (arith, (equal-room c.args.self.n c.args.self.w _ _ (length c.args.out.now) c.requires.few c.args.self.narrow c.cube_len-size.ensures c.front_len-base.ensures c.requires.room), c.put_front.auto.out)
 
 pub slice_bounds-put_cuts-start : goal.slice_bounds-put_cuts-start
 slice_bounds-put_cuts-start c =
-    let few : 2 * c.args.self.n ≤ most_cuts = omega (arith, c.requires.few) in
-    let short : cube_len c.args.self.w ≤ widest_cube = omega (arith, c.args.self.narrow) in
-    let room : c.front_len-base.result + (2 * c.args.self.n + 1) * c.cube_len-size.result ≤ length c.args.out.now =
-    let whole = rw (record-len (2 * c.args.self.n) (cube_len c.args.self.w) few short) at c.requires.room in
-    omega (arith, rw (← c.cube_len-size.ensures) at whole, c.front_len-base.ensures) in
-    omega (arith, room, c.put_front.auto.out)
+    omega (arith, (equal-room c.args.self.n c.args.self.w _ _ (length c.args.out.now) c.requires.few c.args.self.narrow c.cube_len-size.ensures c.front_len-base.ensures c.requires.room), c.put_front.auto.out)
 
 pub put_cuts-requires : goal.put_cuts-requires
 put_cuts-requires c =
-    let few : 2 * c.args.self.n ≤ most_cuts = omega (arith, c.requires.few) in
-    let short : cube_len c.args.self.w ≤ widest_cube = omega (arith, c.args.self.narrow) in
-    let room : c.front_len-base.result + (2 * c.args.self.n + 1) * c.cube_len-size.result ≤ length c.args.out.now =
-    let whole = rw (record-len (2 * c.args.self.n) (cube_len c.args.self.w) few short) at c.requires.room in
-    omega (arith, rw (← c.cube_len-size.ensures) at whole, c.front_len-base.ensures) in
-    rw (← c.cube_len-size.ensures) (simp (length-take, length-drop) (omega (arith, room)))
+    rw (← c.cube_len-size.ensures) (simp (length-take, length-drop) (omega (arith, (equal-room c.args.self.n c.args.self.w _ _ (length c.args.out.now) c.requires.few c.args.self.narrow c.cube_len-size.ensures c.front_len-base.ensures c.requires.room))))
 
 pub returns : goal.returns
 returns c =
     let few : 2 * c.args.self.n ≤ most_cuts = omega (arith, c.requires.few) in
     let short : cube_len c.args.self.w ≤ widest_cube = omega (arith, c.args.self.narrow) in
-    let room : c.front_len-base.result + (2 * c.args.self.n + 1) * c.cube_len-size.result ≤ length c.args.out.now =
-    let whole = rw (record-len (2 * c.args.self.n) (cube_len c.args.self.w) few short) at c.requires.room in
-    omega (arith, rw (← c.cube_len-size.ensures) at whole, c.front_len-base.ensures) in
+    let room = equal-room c.args.self.n c.args.self.w _ _ (length c.args.out.now) c.requires.few c.args.self.narrow c.cube_len-size.ensures c.front_len-base.ensures c.requires.room in
     let x = c.args.self in
     let e = c.cube_len-size.ensures in
     let o = c.front_len-base.result in

@@ -17,7 +17,7 @@ use Rattle.format.specs.Bytes.{codes}
 use Rattle.cube.specs.Whole.{wholes_at}
 use Rattle.cube.specs.declared.row.Row.{Row}
 use Rattle.cube.proofs.Rows.{slices-cubes}
-use Rattle.visits.specs.Cuts.{cubes_of, First, NextCut}
+use Rattle.visits.specs.Cuts.{cubes_of, FirstCutOf, NextCut}
 
 pub room : (at n m q l : ℕ) → n ≡ suc m → at + n * q ≤ l → (at + q ≤ l) × (at + q + m * q ≤ l)
 room at n m q l e h = let k : n * q ≡ m * q + q = rw (e, suc-mul) in omega arith
@@ -30,12 +30,12 @@ pub row-none : (r : Row) → r.count ≡ 0 → cubes_of r ≡ []
 unfolding cubes_of
 row-none r e = rw e
 
-pub row-first : (r s : Row) (c : List ℕ) → r.count ≡ suc s.count → c ≡ take r.size r.bytes.now → s.bytes.now ≡ drop r.size r.bytes.now → s.size ≡ r.size → length c ≡ r.size → First r c s
+pub row-first : (r s : Row) (c : List ℕ) → r.count ≡ suc s.count → c ≡ take r.size r.bytes.now → s.bytes.now ≡ drop r.size r.bytes.now → s.size ≡ r.size → length c ≡ r.size → FirstCutOf r c s
 unfolding cubes_of
 row-first r s c n ec eb es l = record { cubes = rw (n, ec, eb, es); long = l; size = es; count = n }
 
 -- the row r, of which s is left
-module _ (r s t : Row) (p : Cube) (c : List ℕ) (size : s.size ≡ r.size) (fewer : s.count ≤ r.count) (same : visit (cubes_of r) p ≡ visit (cubes_of s) p) (f : First s c t) where
+module _ (r s t : Row) (p : Cube) (c : List ℕ) (size : s.size ≡ r.size) (fewer : s.count ≤ r.count) (same : visit (cubes_of r) p ≡ visit (cubes_of s) p) (f : FirstCutOf s c t) where
   pub cut-passed : shares p (codes c) ≡ false → (t.size ≡ r.size) × (t.count ≤ r.count) × (visit (cubes_of r) p ≡ visit (cubes_of t) p)
   cut-passed h = (f.size ∙ size, omega (arith, f.count), same ∙ ap (λ cs. visit cs p) f.cubes ∙ visit-passed (codes c) (cubes_of t) p h)
 
