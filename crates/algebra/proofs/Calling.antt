@@ -43,7 +43,8 @@ use Rattle.algebra.proofs.Standing.{tidy-shown, intersect-shown, less-shown, who
 pub silent-ends : {t : Told} {r a : Answer} {old : List ℕ} → r ≡ a → silent a ≡ t → record { answer : r ≡ t.answer; bytes : old ≡ over old t.bytes }
 silent-ends e f = record { answer = silent-answer e f; bytes = silent-bytes f }
 
-pub told-ends : {x t : Told} {r : Answer} {old new : List ℕ} → Permitted x old r new → x ≡ t → record { answer : r ≡ t.answer; bytes : new ≡ over old t.bytes }
+pub told-ends : {x t : Told} {r : Answer} {old new : List ℕ} → Permitted x old r new → x ≡ t
+    → record { answer : r ≡ t.answer; bytes : new ≡ over old t.bytes }
 told-ends {old = old} p f = record { answer = told-answer f p.answer; bytes = told-bytes old f p.buffer }
 
 -- two single records
@@ -92,7 +93,11 @@ file-lent {s} f o k = file-passed s o k (ap fault_number f.read)
 -- the first file, with its width and where its first record stands, as a call knows them
 module _ {s : List ℕ} (f : File s) (w a : ℕ) (width : w ≡ width_of s) (first : a ≡ first_at s) where
   pub region_tidy-stand : record { narrow : w ≤ widest; stand : Stand Tidy (cube_len w) s a s 0 }
-  region_tidy-stand = rw (width, first) (record { narrow = f.width.narrow; stand = tidy-stand (width_of s) f.width.some f.width.narrow s (file-runs f) (file-some f) })
+  region_tidy-stand = rw (width, first) (record {
+    narrow = f.width.narrow;
+    stand = tidy-stand (width_of s) f.width.some f.width.narrow s
+        (file-runs f) (file-some f);
+  })
 
   pub region_tidy-told : (room : ℕ) → whole_told Tidy w s a s 0 room ≡ region_tidy s room
   unfolding region_tidy
@@ -107,7 +112,8 @@ module _ {s : List ℕ} (f : File s) (w a : ℕ) (width : w ≡ width_of s) (fir
     runs = rw e (file-runs g)
 
     pub region_intersect-stand : record { narrow : w ≤ widest; stand : Stand Intersect (cube_len w) s a t b }
-    region_intersect-stand = rw (width, first, second) (record { narrow = f.width.narrow; stand = intersect-stand (width_of s) f.width.some f.width.narrow (file-runs f) runs })
+    region_intersect-stand = rw (width, first, second) (record
+        { narrow = f.width.narrow; stand = intersect-stand (width_of s) f.width.some f.width.narrow (file-runs f) runs })
 
     pub region_intersect-told : (room : ℕ) → whole_told Intersect w s a t b room ≡ region_intersect s t room
     unfolding region_intersect
@@ -128,7 +134,11 @@ module _ {s : List ℕ} (f : File s) (w a : ℕ) (width : w ≡ width_of s) (fir
     single = record_of true (width_of s) 0 t 0 (record-lent (width_of s) t 2 accepted (sym tested) refl)
 
     pub region_less-stand : record { narrow : w ≤ widest; stand : Stand (Less b) (cube_len w) s a t b }
-    region_less-stand = rw (width, first, is) (record { narrow = f.width.narrow; stand = less-stand (width_of s) f.width.some f.width.narrow (file-runs f) single })
+    region_less-stand = rw (width, first, is) (record {
+      narrow = f.width.narrow;
+      stand = less-stand (width_of s) f.width.some f.width.narrow
+          (file-runs f) single;
+    })
 
     pub region_less-told : (room : ℕ) → whole_told (Less b) w s a t b room ≡ region_less s t room
     unfolding region_less

@@ -89,7 +89,8 @@ module _ (q : ℕ) (d : Difference) (out : List ℕ) (sum : Totals) where
 
 -- a region, and another after it
 module _ (q : ℕ) (r s : Region) (out : List ℕ) (sum : Totals) where
-  pub adds-both : (mid : List ℕ) (m : Totals) (new : List ℕ) (x : Result Totals Refusal) → AddsTo q r out sum mid m → Adds q s mid m new x → Adds q (r ++ s) out sum new x
+  pub adds-both : (mid : List ℕ) (m : Totals) (new : List ℕ) (x : Result Totals Refusal) → AddsTo q r out sum mid m → Adds q s mid m new x
+      → Adds q (r ++ s) out sum new x
   adds-both mid m new (Ok t) f g done old c = rw (← append_assoc done r s) (g (done ++ r) old (f done old c))
   adds-both mid m new (Err e) f g done old c = rw (← append_assoc done r s) (g (done ++ r) old (f done old c))
 

@@ -52,7 +52,8 @@ module _ (w : ℕ) (out rest : List ℕ) (none : length rest ≡ 0) (r : Region)
       result-size : t.size ≡ length (differences_bytes (4 * cube_len w) r)
       result-size = rw (take_all (most_differences + 1) r (omega (arith, result-few))) at c.size
 
-      pub permits-short : length (rest ++ out) < t.size + length (width_bytes w) → Permitted (outcome (whole_rows w r (length out))) out (refused 22) (rest ++ out)
+      pub permits-short : length (rest ++ out) < t.size + length (width_bytes w)
+          → Permitted (outcome (whole_rows w r (length out))) out (refused 22) (rest ++ out)
       permits-short h =
           let k = rw (nothing-back rest out none) at h in
           let room : silent (refused 22) ≡ outcome (whole_rows w r (length out)) =
@@ -61,7 +62,8 @@ module _ (w : ℕ) (out rest : List ℕ) (none : length rest ≡ 0) (r : Region)
 
       -- it fits, and is counted once more over the buffer behind kind 1
       pub permits-written : t.size + length (width_bytes w) ≤ length (rest ++ out) → (mid ys : List ℕ) (n : ℕ) {u : Totals}
-          → mid ≡ put (rest ++ out) 0 (width_bytes w) → n ≡ length mid - length (width_bytes w) → Counts (cube_len w) r (take n (drop (length (width_bytes w)) mid)) ys u
+          → mid ≡ put (rest ++ out) 0 (width_bytes w) → n ≡ length mid - length (width_bytes w) → Counts (cube_len w) r
+          (take n (drop (length (width_bytes w)) mid)) ys u
           → Permitted (outcome (whole_rows w r (length out))) out (wrote (t.size + length (width_bytes w))) (put_mid (length (width_bytes w)) n mid ys)
       permits-written h mid ys n m k again =
           let f = rw (nothing-back rest out none) at h in

@@ -80,7 +80,8 @@ module _ (q : ℕ) (s t : List ℕ) where
   unfolding total stop_at
   intersect-total a x =
       each-tidied (λ b. each (made Intersect q t (whole_there q s b)) (ahead t x)) (λ d. each (intersection d) (whole_region q t x)) (whole_there q s)
-      (λ b. each-tidied (made Intersect q t (whole_there q s b)) (intersection (whole_there q s b)) (whole_there q t) (intersect-made (whole_there q s b)) (ahead t x))
+      (λ b. each-tidied (made Intersect q t (whole_there q s b)) (intersection (whole_there q s b)) (whole_there q t)
+      (intersect-made (whole_there q s b)) (ahead t x))
       (ahead s a)
 
   -- subtraction of a record whose base starts at b

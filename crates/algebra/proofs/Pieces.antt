@@ -41,7 +41,8 @@ module _ (old new : Piece) (base t : List ℕ) (base-long : length base ≡ old.
   begun-own e = record { bases = rw (size, e, put-front old.cubes base old.size base-long room); none = none; size = size }
 
   module _ (at : ℕ) (fits : at + old.size ≤ length t) where
-    pub begun-none : false ≡ shares (codes base) (codes (take (at + old.size - at) (drop at t))) → Begun (bases_at old.size (codes base) t (Some at)) old new None
+    pub begun-none : false ≡ shares (codes base) (codes (take (at + old.size - at) (drop at t)))
+        → Begun (bases_at old.size (codes base) t (Some at)) old new None
     unfolding bases_at
     begun-none e = record { bases = rw (← rw (whole_part old.size t at) at e); none = none; size = size }
 

@@ -121,7 +121,8 @@ module _ (o : Operation) (q : ℕ) (s t : List ℕ) (x : ℕ) where
 
   module _ (all : Region) (old : List ℕ) (rest : List Front) (out : List ℕ) (sum : Totals) (piece : Piece) (v : Records o q s t x all old rest out sum piece) where
     module _ (f : Front) (fs : List Front) (e : rest ≡ f ∷ fs) (new : List ℕ) (r : Result Totals Refusal)
-        (d : Difference) (is : d ≡ whole_difference piece.size s f) (adds : Adds piece.size (each (made o piece.size t d) (stops o piece.size t x)) out sum new r) where
+        (d : Difference) (is : d ≡ whole_difference piece.size s f)
+        (adds : Adds piece.size (each (made o piece.size t d) (stops o piece.size t x)) out sum new r) where
       added-row : Counted q (v.done ++ row o q s t x f) old new r
       added-row =
           let here : Adds piece.size (row o piece.size s t x f) out sum new r =

@@ -51,7 +51,8 @@ module _ {w : ℕ} {s : List ℕ} where
   listed-stand (ended h) = tt
   listed-stand (listed {at} r rest) = (front-stands r (front-own s at), listed-stand rest)
 
-  listed-whole : {at n : ℕ} {os : List ℕ} → Listed w s at n os → map (whole_there (cube_len w) s) os ≡ map (pad_difference (unused w)) (region_of w s os)
+  listed-whole : {at n : ℕ} {os : List ℕ} → Listed w s at n os
+      → map (whole_there (cube_len w) s) os ≡ map (pad_difference (unused w)) (region_of w s os)
   listed-whole (ended h) = refl
   listed-whole (listed {at} r rest) = λ i. whole-record r (front-own s at) i ∷ listed-whole rest i
 
@@ -84,7 +85,10 @@ module _ (w : ℕ) (some : 1 ≤ w) (narrow : w ≤ widest) where
       → All (λ x. Room (cube_len w) t (stop_at Intersect (cube_len w) t x)) xs
   unfolding stop_at
   intersect-all t [] a = tt
-  intersect-all t (x ∷ xs) a = (record { cube = λ y e. let same : (front_at t x).base ≡ y = cc in omega arith; cuts = omega arith; few = a.0.few }, intersect-all t xs a.1)
+  intersect-all t (x ∷ xs) a = (
+    record { cube = λ y e. let same : (front_at t x).base ≡ y = cc in omega arith; cuts = omega arith; few = a.0.few },
+    intersect-all t xs a.1,
+  )
 
   pub intersect-stand : {s t : List ℕ} {a x : ℕ} {r p : Region} → Runs w s a r → Runs w t x p → Stand Intersect (cube_len w) s a t x
   unfolding stop_at
@@ -94,7 +98,8 @@ module _ (w : ℕ) (some : 1 ≤ w) (narrow : w ≤ widest) where
   less-all : (s t : List ℕ) (b n x : ℕ) → x + n * cube_len w ≡ length t → StopsStand (Less b) (cube_len w) t x
   less-all s t b zero x e = rw (steps-end (λ y. (stop_at (Less b) (cube_len w) t y).next) (length t) x (omega arith)) tt
   less-all s t b (suc n) x e =
-      rw (less-turn (cube_len w) s t b (omega arith) x (omega arith)) (less-room b (cube_len w) t x (omega arith), less-all s t b n (x + cube_len w) (omega arith))
+      rw (less-turn (cube_len w) s t b (omega arith) x (omega arith))
+      (less-room b (cube_len w) t x (omega arith), less-all s t b n (x + cube_len w) (omega arith))
 
   pub less-stand : {s t : List ℕ} {a n : ℕ} {r : Region} → Runs w s a r → Record true w n t 0
       → Stand (Less (front_at t 0).base) (cube_len w) s a t (front_at t 0).base

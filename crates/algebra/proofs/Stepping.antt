@@ -60,7 +60,8 @@ module _ (o : Operation) (q : ℕ) (t : List ℕ) (x : ℕ) where
   pub stops-end : length t ≤ x → map (stop_at o q t) (stops o q t x) ≡ []
   stops-end h = ap (map (stop_at o q t)) (steps-end (λ y. (stop_at o q t y).next) (length t) x h)
 
-  pub stops-turn : 1 ≤ q → x < length t → (p : Stop) → p ≡ stop_at o q t x → map (stop_at o q t) (stops o q t x) ≡ p ∷ map (stop_at o q t) (stops o q t p.next)
+  pub stops-turn : 1 ≤ q → x < length t → (p : Stop) → p ≡ stop_at o q t x
+      → map (stop_at o q t) (stops o q t x) ≡ p ∷ map (stop_at o q t) (stops o q t p.next)
   stops-turn k h p e = rw e (ap (map (stop_at o q t)) (steps-turn (λ y. (stop_at o q t y).next) (length t) (stop-on o q t k) x h))
 
 pub fewer : {A : Type 0} (xs : List A) (x : A) (ys : List A) → xs ≡ x ∷ ys → length ys < length xs

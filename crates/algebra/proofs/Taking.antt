@@ -54,7 +54,8 @@ module _ (base : Cube) (ks : List Cube) (cut : Cube) (later : List Cube) where
 
 -- pieces whose bytes begin alike
 module _ (old new : Piece) (size : new.size ≡ old.size) where
-  same-base : (base x y : List ℕ) → old.cubes ≡ base ++ x → new.cubes ≡ base ++ y → length base ≡ old.size → (base_in old ≡ codes base) × (base_in new ≡ codes base)
+  same-base : (base x y : List ℕ) → old.cubes ≡ base ++ x → new.cubes ≡ base ++ y → length base ≡ old.size
+      → (base_in old ≡ codes base) × (base_in new ≡ codes base)
   unfolding whole_at cube_of
   same-base base x y e f l = (rw e (ap codes (take_at base x old.size l)), rw (f, size) (ap codes (take_at base y old.size l)))
 
@@ -100,7 +101,8 @@ module _ (old new : Piece) (base rest bytes slot now cut : List ℕ) (parts : ol
   met-is =
       let l : length base ≡ length cut = omega arith in
       let n = length-and base cut l in
-      rw (put, into-over base cut slot l (omega (arith, room))) (ap codes (take_at (and_bytes base cut) (drop (length (and_bytes base cut)) slot) old.size (omega (arith, n))) ∙ codes-and base cut l)
+      rw (put, into-over base cut slot l (omega (arith, room)))
+      (ap codes (take_at (and_bytes base cut) (drop (length (and_bytes base cut)) slot) old.size (omega (arith, n))) ∙ codes-and base cut l)
 
   module _ (meets : true ≡ shares (codes base) (codes cut)) where
     pub cut-covered : true ≡ same (codes (take old.size now)) (codes base) → new.kept ≤ old.kept + 1 → Taken old (codes cut ∷ []) new None
@@ -119,7 +121,8 @@ module _ (old new : Piece) (base rest bytes slot now cut : List ℕ) (parts : ol
       cut-again e k =
           record {
             goes = λ later. rw (bases.0, bases.1, kept-was, k, kept-is)
-                (tidy-again (codes base) (map codes (slices old.size bytes old.kept)) (codes cut) later meets (rw met-is at other) (rw (among-any (take old.size now) (slices old.size bytes old.kept), met-is) at e));
+                (tidy-again (codes base) (map codes (slices old.size bytes old.kept)) (codes cut) later meets (rw met-is at other)
+                (rw (among-any (take old.size now) (slices old.size bytes old.kept), met-is) at e));
             few = omega arith;
             size = size;
           }
@@ -141,13 +144,15 @@ module _ (old new : Piece) (base rest bytes slot now cut : List ℕ) (parts : ol
           rw k (wholes-more new.size new.cubes new.size old.kept ∙ ap₂ (λ (ks : List Cube) (c : Cube). ks ++ (c ∷ [])) kept-is here) in
           record {
             goes = λ later. rw (bases.0, bases.1, kept-was, more)
-                (tidy-more (codes base) (map codes (slices old.size bytes old.kept)) (codes cut) later meets (rw met-is at other) (rw (among-any (take old.size now) (slices old.size bytes old.kept), met-is) at e));
+                (tidy-more (codes base) (map codes (slices old.size bytes old.kept)) (codes cut) later meets (rw met-is at other)
+                (rw (among-any (take old.size now) (slices old.size bytes old.kept), met-is) at e));
             few = omega arith;
             size = size;
           }
 
 -- the cut shares no header with the base
-pub cut-apart : (old new : Piece) (base rest cut : List ℕ) → old.cubes ≡ base ++ rest → new.cubes ≡ base ++ rest → new.size ≡ old.size → new.kept ≡ old.kept
+pub cut-apart : (old new : Piece) (base rest cut : List ℕ) → old.cubes ≡ base ++ rest → new.cubes ≡ base ++ rest → new.size ≡ old.size
+    → new.kept ≡ old.kept
     → length base ≡ old.size → false ≡ shares (codes base) (codes cut) → Taken old (codes cut ∷ []) new (Some tt)
 unfolding onward
 cut-apart old new base rest cut was is size k l e =
@@ -178,7 +183,8 @@ module _ (old : Piece) (cs : List (List ℕ)) (now : Piece) (rest : List (List �
   row-taken e n s = record { goes = λ later. rw e at (goes later); few = omega (arith, length-map cs codes); size = s }
 
 -- no more cuts are kept than there are in the row
-pub row-few : {old new : Piece} {m : Option Unit} (q : ℕ) (bs : List ℕ) (n : ℕ) → Taken old (map codes (slices q bs n)) new m → new.kept ≤ old.kept + n
+pub row-few : {old new : Piece} {m : Option Unit} (q : ℕ) (bs : List ℕ) (n : ℕ) → Taken old (map codes (slices q bs n)) new m
+    → new.kept ≤ old.kept + n
 row-few q bs n t = omega (arith, t.few, length-map (slices q bs n) codes, slices-length q bs n)
 
 abbrev pub AllLong : ℕ → List (List ℕ) → Type 0

@@ -62,7 +62,8 @@ holds_more P j b x y ey small h = (fits, digits)
             rw (e, q, ← ey, quarters (k % 4) (omega arith)) (same_low (x * 256 + y) y 8 2 (2 * (3 - k % 4)) (mul-add-mod_self_right x 256 y) (omega arith))
 
 -- eight bytes, the first of the highest weight
-pub be-holds : (P bs : List ℕ) (b : ℕ) → ((j : ℕ) → j < 8 → get_or bs j 0 ≡ get_or P (b + j) 0) → ((j : ℕ) → get_or P j 0 < 256) → HoldsBytes P 8 b (from_be_bytes w64 bs)
+pub be-holds : (P bs : List ℕ) (b : ℕ) → ((j : ℕ) → j < 8 → get_or bs j 0 ≡ get_or P (b + j) 0) → ((j : ℕ) → get_or P j 0 < 256)
+    → HoldsBytes P 8 b (from_be_bytes w64 bs)
 be-holds P bs b e f =
     let y : ℕ → ℕ = λ j. get_or bs j 0 in
     let small : (j : ℕ) → j < 8 → get_or bs j 0 < 256 = λ j h. rw (e j h) (f (b + j)) in
@@ -74,7 +75,8 @@ be-holds P bs b e f =
     let h6 = holds_more P 5 b _ (y 5) (e 5 (lit< tt)) (small 5 (lit< tt)) h5 in
     let h7 = holds_more P 6 b _ (y 6) (e 6 (lit< tt)) (small 6 (lit< tt)) h6 in
     let h8 = holds_more P 7 b _ (y 7) (e 7 (lit< tt)) (small 7 (lit< tt)) h7 in
-    let s : (((((((0 * 256 + y 0) * 256 + y 1) * 256 + y 2) * 256 + y 3) * 256 + y 4) * 256 + y 5) * 256 + y 6) * 256 + y 7 ≡ from_be_bytes w64 bs = omega arith in
+    let s : (((((((0 * 256 + y 0) * 256 + y 1) * 256 + y 2) * 256 + y 3) * 256 + y 4) * 256 + y 5) * 256 + y 6) * 256 + y 7 ≡ from_be_bytes w64 bs
+    = omega arith in
     subst (HoldsBytes P 8 b) s h8
 
 pub words-hold : (ws P : List ℕ) → length P ≡ 80 → ((w : ℕ) → w < 10 → HoldsBytes P 8 (8 * w) (get_or ws w 0)) → cube_of_words ws ≡ codes P
@@ -103,7 +105,8 @@ unloaded ws bytes l h =
         let X = get_or ws (i / 32) 0 / 2 ^ s in
         let q : i / 4 / 8 ≡ i / 32 = omega arith in
         let t : 62 - 2 * (i % 32) ≡ s + e = omega arith in
-        rw (h (i / 4) (omega arith), q, quarters (i % 4) (omega arith), t, ← shr-shr (get_or ws (i / 32) 0) s e) (same_low (X % 256) X 8 2 e (mod-mod X 256) (omega arith))
+        rw (h (i / 4) (omega arith), q, quarters (i % 4) (omega arith), t, ← shr-shr (get_or ws (i / 32) 0) s e)
+        (same_low (X % 256) X 8 2 e (mod-mod X 256) (omega arith))
 
 -- the bytes of a word
 be-byte : (x j : ℕ) → j < 8 → get_or (to_be_bytes w64 x) j 0 ≡ x / 2 ^ (56 - 8 * j) % 256
@@ -145,11 +148,13 @@ pub word_more : (P ws : List ℕ) (w x : ℕ) → w < length ws → HoldsBytes P
 word_more P ws w x l h f v i =
     ⊎_elim (λ (e : v ≡ w). rw (e, get_or-set_same ws w x 0 l) h) (λ (e : v ≡ w → ⊥). rw (get_or-set_other ws w v x 0 e) (f v (omega arith))) (same_or_not v w)
 
-pub row_more : (r : Row) (cuts : List (List ℕ)) (m : ℕ) (ws : List ℕ) → m < length cuts → cube_of_words ws ≡ pad (320 - 4 * r.size) (codes (cut_in r m)) → Loaded r cuts m
+pub row_more : (r : Row) (cuts : List (List ℕ)) (m : ℕ) (ws : List ℕ) → m < length cuts
+    → cube_of_words ws ≡ pad (320 - 4 * r.size) (codes (cut_in r m)) → Loaded r cuts m
     → Loaded r (set cuts m ws) (m + 1)
 unfolding row_cube
 row_more r cuts m ws l e f k i =
-    ⊎_elim (λ (d : k ≡ m). rw (d, get_or-set_same cuts m ws [] l) e) (λ (d : k ≡ m → ⊥). rw (get_or-set_other cuts m k ws [] d) (f k (omega arith))) (same_or_not k m)
+    ⊎_elim (λ (d : k ≡ m). rw (d, get_or-set_same cuts m ws [] l) e) (λ (d : k ≡ m → ⊥). rw (get_or-set_other cuts m k ws [] d) (f k (omega arith)))
+    (same_or_not k m)
 
 -- the cut of row m
 pub row-room : (r : Row) (m : ℕ) → m < r.count → (r.count - 1 - m) * r.size + r.size ≤ length r.bytes.now

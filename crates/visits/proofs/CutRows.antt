@@ -30,7 +30,8 @@ pub row-none : (r : Row) → r.count ≡ 0 → cubes_of r ≡ []
 unfolding cubes_of
 row-none r e = rw e
 
-pub row-first : (r s : Row) (c : List ℕ) → r.count ≡ suc s.count → c ≡ take r.size r.bytes.now → s.bytes.now ≡ drop r.size r.bytes.now → s.size ≡ r.size → length c ≡ r.size → FirstCutOf r c s
+pub row-first : (r s : Row) (c : List ℕ) → r.count ≡ suc s.count → c ≡ take r.size r.bytes.now → s.bytes.now ≡ drop r.size r.bytes.now
+    → s.size ≡ r.size → length c ≡ r.size → FirstCutOf r c s
 unfolding cubes_of
 row-first r s c n ec eb es l = record { cubes = rw (n, ec, eb, es); long = l; size = es; count = n }
 

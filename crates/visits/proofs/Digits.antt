@@ -101,7 +101,8 @@ half-shr : (x k : ℕ) → x / 2 / 2 ^ k ≡ x / 2 ^ k / 2
 half-shr x k = shr-shr x 1 k ∙ rw (let e : 1 + k ≡ k + 1 = omega arith in e) (sym (shr-shr x k 1))
 
 -- two bits of the piece's code, the lower one first, and two of the cut's
-bits-open : (a b c d : ℕ) → a < 2 → b < 2 → c < 2 → d < 2 → bit_and (bit_and a b) (bit_xor c d) ≡ bit (opens (code_of (2 * b + a)) (code_of (2 * d + c)))
+bits-open : (a b c d : ℕ) → a < 2 → b < 2 → c < 2 → d < 2
+    → bit_and (bit_and a b) (bit_xor c d) ≡ bit (opens (code_of (2 * b + a)) (code_of (2 * d + c)))
 bits-open zero zero zero zero h i j k = refl
 bits-open zero zero zero (suc zero) h i j k = refl
 bits-open zero zero (suc zero) zero h i j k = refl

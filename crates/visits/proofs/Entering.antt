@@ -92,18 +92,21 @@ module _ (rows : List ℕ) (near : Cube) (one : ℕ) (after : List ℕ) (en : En
   pub enter-fits : get_or after (2 * i + (2 - y)) 0 ≡ get_or rows (2 * i + (2 - y)) 0
   enter-fits = en i (2 - y) h (omega arith) ∙ rw (un, clash-free (code_of (suc (2 - y)))) (omega arith)
 
-  pub enter-turn : (l : length near ≡ 320) (p : Cube) → length after ≡ 640 → p ≡ set near i (code_of y) → Entered rows p one (set after (2 * i + (2 - y)) (get_or after (2 * i + (2 - y)) 0 + one))
+  pub enter-turn : (l : length near ≡ 320) (p : Cube) → length after ≡ 640 → p ≡ set near i (code_of y)
+      → Entered rows p one (set after (2 * i + (2 - y)) (get_or after (2 * i + (2 - y)) 0 + one))
   enter-turn l p la ep j v k w = rw ep (⊎_elim (λ (e : j ≡ i). same e) (λ (n : j ≡ i → ⊥). other n) (same_or_not j i))
     where
       r : ℕ
       r = 2 * i + (2 - y)
 
-      other : (j ≡ i → ⊥) → get_or (set after r (get_or after r 0 + one)) (2 * j + v) 0 ≡ get_or rows (2 * j + v) 0 + one * bit (clash (code_of (suc v)) (get_or (set near i (code_of y)) j none))
+      other : (j ≡ i → ⊥) → get_or (set after r (get_or after r 0 + one)) (2 * j + v) 0 ≡ get_or rows (2 * j + v) 0 + one * bit
+          (clash (code_of (suc v)) (get_or (set near i (code_of y)) j none))
       other n =
           get_or-set_other after r (2 * j + v) (get_or after r 0 + one) 0 (λ (q : 2 * j + v ≡ 2 * i + (2 - y)). n (omega arith))
           ∙ rw (get_or-set_other near i j (code_of y) none n) (en j v k w)
 
-      same : j ≡ i → get_or (set after r (get_or after r 0 + one)) (2 * j + v) 0 ≡ get_or rows (2 * j + v) 0 + one * bit (clash (code_of (suc v)) (get_or (set near i (code_of y)) j none))
+      same : j ≡ i → get_or (set after r (get_or after r 0 + one)) (2 * j + v) 0 ≡ get_or rows (2 * j + v) 0 + one * bit
+          (clash (code_of (suc v)) (get_or (set near i (code_of y)) j none))
       same e =
           rw (e, get_or-set_same near i (code_of y) none (omega arith))
           (⊎_elim
@@ -127,7 +130,8 @@ enter-end rows near cut one after h ag en j v k w =
 pub agree-turn : (near cut : Cube) (i : ℕ) (y : Code) (p : Cube) → i < length near → p ≡ set near i y → y ≡ get_or cut i none
     → Agrees near cut → Agrees p cut
 agree-turn near cut i y p l ep ey ag j h =
-    rw ep (⊎_elim (λ (e : j ≡ i). inr (rw (e, get_or-set_same near i y none l) ey)) (λ (n : j ≡ i → ⊥). rw (get_or-set_other near i j y none n) (ag j h)) (same_or_not j i))
+    rw ep (⊎_elim (λ (e : j ≡ i). inr (rw (e, get_or-set_same near i y none l) ey))
+    (λ (n : j ≡ i → ⊥). rw (get_or-set_other near i j y none n) (ag j h)) (same_or_not j i))
 
 -- cuts entered one after another
 pub record EnteredAll (cuts : List (List ℕ)) (m : ℕ) (rows : List ℕ) : Type 0 where
@@ -153,10 +157,12 @@ entered-more cuts m rows after one eo l en e = record { long = l; small = small;
     right : Against cuts (m + 1) after
     right i v h k j l =
         rw (en i v h k, eo)
-        (⊎_elim (λ (q : j ≡ m). rw q (more i v h k).top) (λ (q : j ≡ m → ⊥). (more i v h k).below j (omega arith) ∙ e.right i v h k j (omega arith)) (same_or_not j m))
+        (⊎_elim (λ (q : j ≡ m). rw q (more i v h k).top) (λ (q : j ≡ m → ⊥). (more i v h k).below j (omega arith) ∙ e.right i v h k j (omega arith))
+        (same_or_not j m))
 
 -- the cuts that a piece meets
-pub met-more : (r : Row) (p : Cube) (m x y : ℕ) (b : Bool) → y ≡ x + 2 ^ m * bit b → b ≡ shares p (codes (cut_in r m)) → Met r p m x → Met r p (m + 1) y
+pub met-more : (r : Row) (p : Cube) (m x y : ℕ) (b : Bool) → y ≡ x + 2 ^ m * bit b → b ≡ shares p (codes (cut_in r m)) → Met r p m x
+    → Met r p (m + 1) y
 met-more r p m x y b ey eb e =
     let d = digit-more m x b e.0 in
     let s' : m + 1 ≡ suc m = omega arith in

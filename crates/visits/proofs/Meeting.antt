@@ -55,7 +55,8 @@ and-assoc' : (a b c : Bool) → a && (b && c) ≡ (a && b) && c
 and-assoc' true b c = refl
 and-assoc' false b c = refl
 
-pub child-shares : (p c : Cube) (i : ℕ) (v : Code) → (v ≡ v0) ⊎ (v ≡ v1) → get_or p i none ≡ free → shares (set p i v) c ≡ shares p c && not (clash v (get_or c i none))
+pub child-shares : (p c : Cube) (i : ℕ) (v : Code) → (v ≡ v0) ⊎ (v ≡ v1) → get_or p i none ≡ free
+    → shares (set p i v) c ≡ shares p c && not (clash v (get_or c i none))
 child-shares [] c i v s e = let z : ◌≡◌ {A = Bool} true false = cc in absurd (true≢false z)
 child-shares (x ∷ p) [] zero v s e = refl
 child-shares (x ∷ p) [] (suc i) v s e = refl
@@ -69,7 +70,8 @@ less-bits true false = refl
 less-bits false true = refl
 less-bits false false = refl
 
-pub alive-child : (cuts : List (List ℕ)) (n : ℕ) (p q : Cube) (i : ℕ) (v : Code) (x g r : ℕ) → Alive cuts n p x → AgainstAt cuts n i v g → (v ≡ v0) ⊎ (v ≡ v1)
+pub alive-child : (cuts : List (List ℕ)) (n : ℕ) (p q : Cube) (i : ℕ) (v : Code) (x g r : ℕ) → Alive cuts n p x → AgainstAt cuts n i v g
+    → (v ≡ v0) ⊎ (v ≡ v1)
     → get_or p i none ≡ free → q ≡ set p i v → r ≡ bit_xor x (bit_and x g) → Alive cuts n q r
 alive-child cuts n p q i v x g r a b s e eq er =
     rw (eq, er) (
@@ -84,7 +86,8 @@ alive-child cuts n p q i v x g r a b s e eq er =
 pub pow-double : (m : ℕ) → 2 ^ suc m ≡ 2 ^ m + 2 ^ m
 pow-double m = omega (arith, pow-suc 2 m)
 
-pub alive-fewer : (cuts : List (List ℕ)) (n m : ℕ) (p : Cube) (x : ℕ) → Alive cuts n p x → 2 ^ m ≤ x → x < 2 ^ suc m → m < n → Alive cuts m p (x - 2 ^ m)
+pub alive-fewer : (cuts : List (List ℕ)) (n m : ℕ) (p : Cube) (x : ℕ) → Alive cuts n p x → 2 ^ m ≤ x → x < 2 ^ suc m → m < n
+    → Alive cuts m p (x - 2 ^ m)
 alive-fewer cuts n m p x a o u l =
     (omega (arith, pow-double m), λ j h. let e : x ≡ 2 ^ m + (x - 2 ^ m) = omega arith in sym (digit-below j m (x - 2 ^ m) h) ∙ rw (← e) (a.1 j (omega arith)))
 
@@ -113,7 +116,8 @@ module _ (cuts : List (List ℕ)) (n : ℕ) (p : Cube) where
   rows-passed = visit-passed (row_cube cuts n) (cuts_below cuts n) p
 
 -- the cuts of more weight than any digit
-pub alive-passed : (cuts : List (List ℕ)) (n m : ℕ) (p : Cube) (x : ℕ) → Alive cuts n p x → x < 2 ^ m → m ≤ n → visit (cuts_below cuts n) p ≡ visit (cuts_below cuts m) p
+pub alive-passed : (cuts : List (List ℕ)) (n m : ℕ) (p : Cube) (x : ℕ) → Alive cuts n p x → x < 2 ^ m → m ≤ n
+    → visit (cuts_below cuts n) p ≡ visit (cuts_below cuts m) p
 alive-passed cuts zero m p x a h l = let e : m ≡ 0 = omega arith in rw e
 alive-passed cuts (suc n) m p x a h l =
     ⊎_elim
@@ -124,7 +128,8 @@ alive-passed cuts (suc n) m p x a h l =
     rows-passed cuts n p z ∙ alive-passed cuts n m p x (b, λ j d. a.1 j (omega arith)) h (omega arith))
     (λ (k : suc n ≤ m). let e : m ≡ suc n = omega arith in rw e) (below_or m (suc n))
 
-pub alive-none : (cuts : List (List ℕ)) (n : ℕ) (p : Cube) (x : ℕ) → Alive cuts n p x → x ≡ 0 → visit (cuts_below cuts n) p ≡ record { pieces = 1; survivor = piece p }
+pub alive-none : (cuts : List (List ℕ)) (n : ℕ) (p : Cube) (x : ℕ) → Alive cuts n p x → x ≡ 0
+    → visit (cuts_below cuts n) p ≡ record { pieces = 1; survivor = piece p }
 unfolding cuts_below
 alive-none cuts n p x a e = alive-passed cuts n 0 p x a (omega arith) (omega arith) ∙ visit-none p
 

@@ -56,7 +56,8 @@ pub record Opens (x y : ℕ) : Type 0 where
 opens-numbers : (x y : ℕ) → x < 4 → y < 4 → opens (code_of x) (code_of y) ≡ true → Opens x y
 opens-numbers x y h k e =
     below4 (λ (x : ℕ). opens (code_of x) (code_of y) ≡ true → Opens x y) (λ e. absurd (false≢true e)) (λ e. absurd (false≢true e)) (λ e. absurd (false≢true e))
-    (below4 (λ (y : ℕ). opens free (code_of y) ≡ true → Opens 3 y) (λ e. absurd (false≢true e)) (λ e. record { three = refl; least = omega arith; most = omega arith })
+    (below4 (λ (y : ℕ). opens free (code_of y) ≡ true → Opens 3 y) (λ e. absurd (false≢true e))
+    (λ e. record { three = refl; least = omega arith; most = omega arith })
     (λ e. record { three = refl; least = omega arith; most = omega arith }) (λ e. absurd (false≢true e)) y k) x h e
 
 other-number : (y : ℕ) → 1 ≤ y → y ≤ 2 → code_of (3 - y) ≡ other (code_of y)
@@ -121,11 +122,13 @@ module _ (near : List ℕ) (i v word : ℕ) (l : length near ≡ 10) (h : i < 32
 -- the child has the other value there, and the piece that goes on has the cut's
 module _ (near cut : List ℕ) (i y : ℕ) (l : length near ≡ 10) (o : Opened near cut i y) where
   module _ (cuts : List (List ℕ)) (n : ℕ) (against : List ℕ) (met : ℕ) (m : Alive cuts n (cube_of_words near) met) (t : Against cuts n against) where
-    pub child-alive : (word r : ℕ) → GivenWord (get_or near (i / 32) 0) (i % 32) (3 - y) word → r ≡ bit_xor met (bit_and met (get_or against (2 * i + (3 - y - 1)) 0))
+    pub child-alive : (word r : ℕ) → GivenWord (get_or near (i / 32) 0) (i % 32) (3 - y) word
+        → r ≡ bit_xor met (bit_and met (get_or against (2 * i + (3 - y - 1)) 0))
         → Alive cuts n (cube_of_words (set near (i / 32) word)) r
     child-alive word r g = took-alive near i (3 - y) word l o.inside g cuts n against met r o.unfixed (omega (arith, o.most)) (omega (arith, o.least)) m t
 
-    pub agreed-alive : (word r : ℕ) → GivenWord (get_or near (i / 32) 0) (i % 32) y word → r ≡ bit_xor met (bit_and met (get_or against (2 * i + (y - 1)) 0))
+    pub agreed-alive : (word r : ℕ) → GivenWord (get_or near (i / 32) 0) (i % 32) y word
+        → r ≡ bit_xor met (bit_and met (get_or against (2 * i + (y - 1)) 0))
         → Alive cuts n (cube_of_words (set near (i / 32) word)) r
     agreed-alive word r g = took-alive near i y word l o.inside g cuts n against met r o.unfixed o.least o.most m t
 
@@ -137,26 +140,31 @@ module _ (near cut : List ℕ) (i y : ℕ) (l : length near ≡ 10) (o : Opened 
 
     pub child-stops : (v.verdict ≡ Covered → ⊥) → left_from f (cube_of_words cut) have (cube_of_words near) ≡ v
     child-stops =
-        turn-stop f (cube_of_words cut) (cube_of_words near) have even i o.first (omega (arith, o.inside, words-length near)) (code_of y) (code_of (3 - y)) o.fixed o.turned
+        turn-stop f (cube_of_words cut) (cube_of_words near) have even i o.first (omega (arith, o.inside, words-length near)) (code_of y)
+        (code_of (3 - y)) o.fixed o.turned
         (cube_of_words (set near (i / 32) word)) (took-cube near i (3 - y) word l o.inside g) v r
 
     pub child-covered : v.verdict ≡ Covered → (p : Cube) → p ≡ set (cube_of_words near) i (code_of y)
         → left_from f (cube_of_words cut) have (cube_of_words near) ≡ left_from f (cube_of_words cut) v.allowance p
     child-covered k p e =
-        turn-covered f (cube_of_words cut) (cube_of_words near) have even i o.first (omega (arith, o.inside, words-length near)) (code_of y) (code_of (3 - y)) o.fixed o.turned
+        turn-covered f (cube_of_words cut) (cube_of_words near) have even i o.first (omega (arith, o.inside, words-length near)) (code_of y)
+        (code_of (3 - y)) o.fixed o.turned
         (cube_of_words (set near (i / 32) word)) (took-cube near i (3 - y) word l o.inside g) v r k
         ∙ ap (left_from f (cube_of_words cut) v.allowance) (sym e)
 
 -- no position opens
-pub none-opens : (f : Cube → Found) (near cut : List ℕ) (r : Option ℕ) (have : Allowance) → FirstOpen (cube_of_words near) (cube_of_words cut) r → r ≡ None
+pub none-opens : (f : Cube → Found) (near cut : List ℕ) (r : Option ℕ) (have : Allowance) → FirstOpen (cube_of_words near) (cube_of_words cut) r
+    → r ≡ None
     → left_from f (cube_of_words cut) have (cube_of_words near) ≡ record { allowance = have; verdict = Covered; piece = [] }
 none-opens f near cut r have s e = turn_end f (cube_of_words cut) (cube_of_words near) have (words-length near ∙ sym (words-length cut)) (s.none_left e)
 
 -- the position takes the cut's value: the next one that opens is a later one
-pub later_first : (near cut : List ℕ) (i y : ℕ) (p : Cube) → Opened near cut i y → p ≡ set (cube_of_words near) i (code_of y) → i < first_open p (cube_of_words cut)
+pub later_first : (near cut : List ℕ) (i y : ℕ) (p : Cube) → Opened near cut i y → p ≡ set (cube_of_words near) i (code_of y)
+    → i < first_open p (cube_of_words cut)
 later_first near cut i y p o c =
     rw (c, o.fixed)
-    (rw (← o.first) at (first-after (cube_of_words near) (cube_of_words cut) (words-length near ∙ sym (words-length cut)) (omega (arith, words-length near, o.first, o.inside))))
+    (rw (← o.first) at (first-after (cube_of_words near) (cube_of_words cut) (words-length near ∙ sym (words-length cut))
+    (omega (arith, words-length near, o.first, o.inside))))
 
 pub begun : (cuts : List (List ℕ)) (n : ℕ) (p : Cube) (a b : Allowance) → 0 < a.left → b ≡ after a 1 → shares p (row_cube cuts n) ≡ true
     → settle a (visit (cuts_below cuts (suc n)) p) ≡ left_from (visit (cuts_below cuts n)) (cube_of_words (get_or cuts n [])) b p
@@ -180,7 +188,8 @@ module _ (cuts : List (List ℕ)) (n : ℕ) (have : Allowance) (p : Cube) (alive
   pub told-known : (count : ℕ) → Finds count (visit (cuts_below cuts n) p) → Pays count have s → Told cuts n have p r slots
   told-known count f t = record { said = rw e (t (visit (cuts_below cuts n) p) f); memory = rw k m }
 
-  pub told-visited : (top : ℕ) → (top < 64) × (alive < 2 ^ suc top) × (2 ^ top ≤ alive) → tells s ≡ settle have (visit (cuts_below cuts (suc top)) p) → Told cuts n have p r slots
+  pub told-visited : (top : ℕ) → (top < 64) × (alive < 2 ^ suc top) × (2 ^ top ≤ alive)
+      → tells s ≡ settle have (visit (cuts_below cuts (suc top)) p) → Told cuts n have p r slots
   told-visited top h t =
       record { said = rw e (t ∙ ap (settle have) (sym (alive-passed cuts n (suc top) p alive a h.1 (alive-top n top alive a.0 h.2)))); memory = rw k m }
 
@@ -191,7 +200,11 @@ module _ (cuts : List (List ℕ)) (n : ℕ) (have : Allowance) (p : Cube) (r : O
   pub told-count : r.verdict ≡ Covered → (have.spent ≤ r.allowance.spent) × Finds (r.allowance.spent - have.spent) (visit (cuts_below cuts n) p)
   told-count c = covered-finds have r.allowance (visit (cuts_below cuts n) p) (sym t.said ∙ tells-covered r c)
 
-  pub told-stops : (near cut : List ℕ) (i y : ℕ) → length near ≡ 10 → Opened near cut i y → (word : ℕ) → GivenWord (get_or near (i / 32) 0) (i % 32) (3 - y) word → p ≡ cube_of_words (set near (i / 32) word)
+  pub told-stops : (near cut : List ℕ) (i y : ℕ) → length near ≡ 10 → Opened near cut i y → (word : ℕ)
+      → GivenWord (get_or near (i / 32) 0) (i % 32) (3 - y) word → p ≡ cube_of_words (set near (i / 32) word)
       → (r.verdict ≡ Covered → ⊥) → (left_from (visit (cuts_below cuts n)) (cube_of_words cut) have (cube_of_words near) ≡ tells r) × Memory cuts slots
-  told-stops near cut i y l o word g e c =
-      (child-stops near cut i y l o (visit (cuts_below cuts n)) have word g (tells r) (t.said ∙ ap (λ (q : Cube). settle have (visit (cuts_below cuts n) q)) e) c, t.memory)
+  told-stops near cut i y l o word g e c = (
+    child-stops near cut i y l o (visit (cuts_below cuts n)) have word g (tells r)
+        (t.said ∙ ap (λ (q : Cube). settle have (visit (cuts_below cuts n) q)) e) c,
+    t.memory,
+  )

@@ -18,7 +18,8 @@ use Rattle.std.specs.Prelude.{Some, None}
 use Rattle.std.specs.Option.{ForSome}
 use Rattle.std.proofs.lemmas.Option.{none-some}
 
-pub first-opens : (p c : Cube) → length p ≡ length c → first_open p c < length p → opens (get_or p (first_open p c) none) (get_or c (first_open p c) none) ≡ true
+pub first-opens : (p c : Cube) → length p ≡ length c → first_open p c < length p
+    → opens (get_or p (first_open p c) none) (get_or c (first_open p c) none) ≡ true
 unfolding first_open
 first-opens [] c e h = absurd (omega arith)
 first-opens (x ∷ p) [] e h = absurd (omega arith)
@@ -62,7 +63,8 @@ children-none (x ∷ p) (y ∷ c) e h = go (opens x y) h (children-none p c (ome
     go true h ih = absurd (omega arith)
     go false h ih = rw (ih (omega arith))
 
-pub first-after : (p c : Cube) → length p ≡ length c → first_open p c < length p → first_open p c < first_open (set p (first_open p c) (get_or c (first_open p c) none)) c
+pub first-after : (p c : Cube) → length p ≡ length c → first_open p c < length p
+    → first_open p c < first_open (set p (first_open p c) (get_or c (first_open p c) none)) c
 unfolding first_open
 first-after [] c e h = absurd (omega arith)
 first-after (x ∷ p) [] e h = absurd (omega arith)
@@ -70,7 +72,8 @@ first-after (x ∷ p) (y ∷ c) e h = go (opens x y) refl h (first-after p c (om
   where
     go : (b : Bool) → opens x y ≡ b → cond b 0 (suc (first_open p c)) < suc (length p)
         → (first_open p c < length p → first_open p c < first_open (set p (first_open p c) (get_or c (first_open p c) none)) c)
-        → cond b 0 (suc (first_open p c)) < first_open (set (x ∷ p) (cond b 0 (suc (first_open p c))) (get_or (y ∷ c) (cond b 0 (suc (first_open p c))) none)) (y ∷ c)
+        → cond b 0 (suc (first_open p c)) < first_open (set (x ∷ p) (cond b 0 (suc (first_open p c)))
+        (get_or (y ∷ c) (cond b 0 (suc (first_open p c))) none)) (y ∷ c)
     go true q h ih = rw (agreed y) (omega arith)
     go false q h ih = rw q (omega (arith, ih (omega arith)))
 

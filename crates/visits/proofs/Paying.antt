@@ -24,7 +24,8 @@ pub pays-whole : (a : Allowance) (k : ℕ) → k ≤ a.left → (u : Found) → 
     → record { allowance = record { left = a.left - k; spent = a.spent + k }; verdict = Covered; piece = [] } ≡ settle a u
 pays-whole a k h u f = sym (settle-le a u (omega (arith, f.0)) ∙ rw (f.0, f.1))
 
-pub covered-finds : (a b : Allowance) (v : Found) → settle a v ≡ record { allowance = b; verdict = Covered; piece = [] } → (a.spent ≤ b.spent) × Finds (b.spent - a.spent) v
+pub covered-finds : (a b : Allowance) (v : Found) → settle a v ≡ record { allowance = b; verdict = Covered; piece = [] }
+    → (a.spent ≤ b.spent) × Finds (b.spent - a.spent) v
 covered-finds a b v e = ⊎_elim short enough (below_or a.left v.pieces)
   where
     Goal : Type 0

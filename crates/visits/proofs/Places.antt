@@ -27,7 +27,8 @@ use Rattle.visits.proofs.Digits.{below_or}
 pub bytes-passed : (p c : List ℕ) (b : ℕ) → length p ≡ length c → length p ≤ 80 → 4 * b ≤ first_open (codes p) (codes c) → Passed 4 codes p c b
 bytes-passed p c b e h k = record { even = e; piece = length-codes p; cut = length-codes c; counted = omega (arith, length-codes p); passed = k }
 
-pub words-passed : (p c : List ℕ) (b : ℕ) → length p ≡ 10 → length c ≡ 10 → 32 * b ≤ first_open (cube_of_words p) (cube_of_words c) → Passed 32 cube_of_words p c b
+pub words-passed : (p c : List ℕ) (b : ℕ) → length p ≡ 10 → length c ≡ 10 → 32 * b ≤ first_open (cube_of_words p) (cube_of_words c)
+    → Passed 32 cube_of_words p c b
 words-passed p c b d e k =
     record {
       even = omega arith;
@@ -88,7 +89,8 @@ module _ {A : Type 0} (n : ℕ) (few : n ≤ 32) (word : A → ℕ) (cube : List
   in-value : (k : ℕ) → k < n → opens (get_or (cube p) (n * b + k) none) (get_or (cube c) (n * b + k) none) ≡ opens_at u w (32 - n + k)
   in-value k l = rw (coded p x b k f.piece h l, coded c y b k f.cut (omega (arith, f.even)) l, ← ex, ← ey, ← eu, ← ew)
 
-  pub open-here : (top : ℕ) → top < 64 → 2 ^ top ≤ t → t < 2 ^ suc top → u < 2 ^ (2 * n) → FirstOpen (cube p) (cube c) (Some (n * b + (n - 1 - top / 2)))
+  pub open-here : (top : ℕ) → top < 64 → 2 ^ top ≤ t → t < 2 ^ suc top → u < 2 ^ (2 * n)
+      → FirstOpen (cube p) (cube c) (Some (n * b + (n - 1 - top / 2)))
   open-here top l low high fits =
       let s = marks-last u w t m top l low high n fits few in
       let k = n - 1 - top / 2 in
@@ -96,7 +98,8 @@ module _ {A : Type 0} (n : ℕ) (few : n ≤ 32) (word : A → ℕ) (cube : List
       first-found (cube p) (cube c) (n * b + k)
       (first-is (cube p) (cube c) (n * b + k) even (omega (arith, inside)) (in-value k (omega arith) ∙ rw r (marks-first u w t m top l low high))
       (λ j g. ⊎_elim (λ (a : j < n * b). before-first (cube p) (cube c) j even (omega (arith, f.passed)))
-      (λ (a : n * b ≤ j). let e : j ≡ n * b + (j - n * b) = omega arith in rw e (in-value (j - n * b) (omega arith) ∙ marks-before u w t m top l low high (32 - n + (j - n * b)) (omega arith)))
+      (λ (a : n * b ≤ j). let e : j ≡ n * b + (j - n * b) = omega arith in rw e
+      (in-value (j - n * b) (omega arith) ∙ marks-before u w t m top l low high (32 - n + (j - n * b)) (omega arith)))
       (below_or j (n * b))))
       (omega (arith, inside))
 
@@ -108,9 +111,11 @@ module _ {A : Type 0} (n : ℕ) (few : n ≤ 32) (word : A → ℕ) (cube : List
       (λ (g : i < n * b + n).
       let e : i ≡ n * b + (i - n * b) = omega (arith, f.passed) in
       let o = first-opens (cube p) (cube c) even (omega (arith, inside)) in
-      absurd (true≢false (sym o ∙ (rw (← e) at (in-value (i - n * b) (omega (arith, f.passed)))) ∙ marks-none u w t m z (32 - n + (i - n * b)) (omega (arith, f.passed)))))
+      absurd (true≢false (sym o ∙ (rw (← e) at (in-value (i - n * b) (omega (arith, f.passed)))) ∙ marks-none u w t m z (32 - n + (i - n * b))
+      (omega (arith, f.passed)))))
       (λ (g : n * b + n ≤ i). g) (below_or i (n * b + n)) in
       record { even = f.even; piece = f.piece; cut = f.cut; counted = f.counted; passed = omega (arith, mul-add n b 1) }
 
-pub open-ended : {A : Type 0} (n : ℕ) (cube : List A → Cube) (p c : List A) (b : ℕ) → Passed n cube p c b → length p ≤ b → FirstOpen (cube p) (cube c) None
+pub open-ended : {A : Type 0} (n : ℕ) (cube : List A → Cube) (p c : List A) (b : ℕ) → Passed n cube p c b → length p ≤ b
+    → FirstOpen (cube p) (cube c) None
 open-ended n cube p c b f h = first-left (cube p) (cube c) (omega (arith, mul-le-mul_left n h, f.piece, f.passed))

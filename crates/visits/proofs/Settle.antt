@@ -134,7 +134,8 @@ said-allowance a (piece p) = refl
 
 settle-sum : (a : Allowance) (v : Found) → (settle a v).allowance.left + (settle a v).allowance.spent ≡ a.left + a.spent
 settle-sum a v =
-    ⊎_elim (λ k. rw (settle-le a v k, said-allowance (after a v.pieces) v.survivor) (omega arith)) (λ k. rw (settle-lt a v k) (omega arith)) (le-or-lt v.pieces a.left)
+    ⊎_elim (λ k. rw (settle-le a v k, said-allowance (after a v.pieces) v.survivor) (omega arith)) (λ k. rw (settle-lt a v k) (omega arith))
+    (le-or-lt v.pieces a.left)
 
 pub settle-keeps : (a : Allowance) (v : Found) (d : Said) → d ≡ settle a v → d.allowance.left + d.allowance.spent ≡ a.left + a.spent
 settle-keeps a v d e = rw e (settle-sum a v)

@@ -84,11 +84,13 @@ opens-ext [] [] c e f t = refl
 opens-ext [] (y ∷ q) c e f t = absurd (omega arith)
 opens-ext (x ∷ p) [] c e f t = absurd (omega arith)
 opens-ext (x ∷ p) (y ∷ q) [] e f t = absurd (omega arith)
-opens-ext (x ∷ p) (y ∷ q) (z ∷ c) e f t = ap₂ (λ (b : Bool) (bs : List Bool). b ∷ bs) (t 0 (omega arith)) (opens-ext p q c (omega arith) (omega arith) (λ i h. t (suc i) (omega arith)))
+opens-ext (x ∷ p) (y ∷ q) (z ∷ c) e f t = ap₂ (λ (b : Bool) (bs : List Bool). b ∷ bs) (t 0 (omega arith))
+    (opens-ext p q c (omega arith) (omega arith) (λ i h. t (suc i) (omega arith)))
 
 module _ (cuts : List (List ℕ)) (p q : Cube) (n : ℕ → Code) (lp : length p ≡ 320) (lq : length q ≡ 320)
     (like : (i : ℕ) → i < 320 → either_code (get_or p i none) (n i) ≡ either_code (get_or q i none) (n i)) where
-  opens-like : (c : Cube) → length c ≡ 320 → shares p c ≡ true → shares q c ≡ true → ((i : ℕ) → i < 320 → meet_code (n i) (get_or c i none) ≡ n i) → opens_all p c ≡ opens_all q c
+  opens-like : (c : Cube) → length c ≡ 320 → shares p c ≡ true → shares q c ≡ true
+      → ((i : ℕ) → i < 320 → meet_code (n i) (get_or c i none) ≡ n i) → opens_all p c ≡ opens_all q c
   opens-like c lc e f u =
       opens-ext p q c (omega arith) (omega arith)
       (λ i h.
@@ -136,7 +138,8 @@ length-of x h =
 
 module _ (cuts : List (List ℕ)) (slot : Slot) (ws : List ℕ) (alive count m : ℕ) (small : alive < 2 ^ 64) (ea : slot.alive ≡ alive) (ec : slot.count ≡ Some count)
     (own : (i : ℕ) → i < 320 → code_in slot.cube i ≡ either_code (code_in ws i) (code_in slot.common i))
-    (low : (j : ℕ) → j < 64 → digit j alive ≡ 1 → (i : ℕ) → i < 320 → meet_code (code_in slot.common i) (get_or (row_cube cuts j) i none) ≡ code_in slot.common i)
+    (low : (j : ℕ) → j < 64 → digit j alive ≡ 1 → (i : ℕ) → i < 320 → meet_code (code_in slot.common i) (get_or (row_cube cuts j) i none) ≡ code_in
+    slot.common i)
     (met : Alive cuts m (cube_of_words ws) alive) (found : Finds count (visit (cuts_below cuts m) (cube_of_words ws))) where
   like-finds : (n : ℕ) (p : Cube) → length p ≡ 320 → Alive cuts n p slot.alive → LikeSlot slot p → Finds count (visit (cuts_below cuts n) p)
   like-finds n p lp a f =
@@ -165,7 +168,8 @@ unfolding number_in
 like-words slot ws h i l =
     rw (words-at ws i l) (either-words (get_or ws (i / 32) 0) (get_or slot.common (i / 32) 0) (get_or slot.cube (i / 32) 0) (i % 32) (h (i / 32) (omega arith)))
 
-pub recalls-right : (slots : List Slot) (ws : List ℕ) (e : ℕ) (slot : Slot) → e < length slots → get_or slots e slot ≡ slot → LikeWords slot ws → Recalls slots ws slot.alive slot.count
+pub recalls-right : (slots : List Slot) (ws : List ℕ) (e : ℕ) (slot : Slot) → e < length slots → get_or slots e slot ≡ slot → LikeWords slot ws
+    → Recalls slots ws slot.alive slot.count
 unfolding Remembers
 recalls-right slots ws e slot h es f k ek cuts mem n a =
     (rw es at (All-get_or (Remembers cuts) slots e slot h mem)) k ek n (cube_of_words ws) (words-length ws) a (like-words slot ws f)
@@ -282,18 +286,23 @@ common-end cuts alive x m z f j h d =
     ⊎_elim (λ (k : digit j x ≡ 1). absurd (omega (arith, (rw (z, div-eq_of_lt (pow_pos j)) at k)))) (λ l. l) (f j h d)
 
 -- a slot is made
-pub keeps-right : (cuts : List (List ℕ)) (slots : List Slot) (near m : List ℕ) (slot : Slot) (e alive count : ℕ) → alive < 2 ^ 64 → Common cuts alive m → SlotOf near m alive count slot
+pub keeps-right : (cuts : List (List ℕ)) (slots : List Slot) (near m : List ℕ) (slot : Slot) (e alive count : ℕ) → alive < 2 ^ 64
+    → Common cuts alive m → SlotOf near m alive count slot
     → Keeps cuts slots near alive count (set slots e slot)
 unfolding number_in
 keeps-right cuts slots near m slot e alive count small low s mem n met found =
     All-set (Remembers cuts) slots e slot
     (remembers-right cuts slot near alive count n small s.meets s.pieces
-    (λ i h. rw s.shared (sym (either-words (get_or near (i / 32) 0) (get_or m (i / 32) 0) (get_or slot.cube (i / 32) 0) (i % 32) (sym (s.own (i / 32) (omega arith))))))
+    (λ i h. rw s.shared (sym (either-words (get_or near (i / 32) 0) (get_or m (i / 32) 0) (get_or slot.cube (i / 32) 0) (i % 32)
+    (sym (s.own (i / 32) (omega arith))))))
     (λ j h d i k. rw s.shared (low j h d i k)) met found) mem
 
 -- the words of a piece and of a slot are compared
-pub look-turn : (slot : Slot) (near : List ℕ) (w d : ℕ) → (d ≡ 0 → (v : ℕ) → v < w → bit_or (get_or near v 0) (get_or slot.common v 0) ≡ get_or slot.cube v 0)
-    → bit_or d (bit_xor (bit_or (get_or near w 0) (get_or slot.common w 0)) (get_or slot.cube w 0)) ≡ 0 → (v : ℕ) → v < w + 1 → bit_or (get_or near v 0) (get_or slot.common v 0) ≡ get_or slot.cube v 0
+pub look-turn : (slot : Slot) (near : List ℕ) (w d : ℕ)
+    → (d ≡ 0 → (v : ℕ) → v < w → bit_or (get_or near v 0) (get_or slot.common v 0) ≡ get_or slot.cube v 0)
+    → bit_or d (bit_xor (bit_or (get_or near w 0) (get_or slot.common w 0)) (get_or slot.cube w 0)) ≡ 0 → (v : ℕ) → v < w + 1 → bit_or
+    (get_or near v 0) (get_or slot.common v 0) ≡ get_or slot.cube v 0
 look-turn slot near w d f z v h =
     let o = or-none d (bit_xor (bit_or (get_or near w 0) (get_or slot.common w 0)) (get_or slot.cube w 0)) z in
-    ⊎_elim (λ (q : v ≡ w). rw q (xor-none (bit_or (get_or near w 0) (get_or slot.common w 0)) (get_or slot.cube w 0) o.1)) (λ (q : v ≡ w → ⊥). f o.0 v (omega arith)) (same_or_not v w)
+    ⊎_elim (λ (q : v ≡ w). rw q (xor-none (bit_or (get_or near w 0) (get_or slot.common w 0)) (get_or slot.cube w 0) o.1))
+    (λ (q : v ≡ w → ⊥). f o.0 v (omega arith)) (same_or_not v w)

@@ -64,7 +64,8 @@ pub record Opens (q i n : ℕ) (cut near : List ℕ) : Type 0 where
   pub other : (m : ℕ) → m ≡ 3 - n → code_of m ≡ other (code_of n)
   pub later : (r : List ℕ) → Given near i n r → i < first_open (cube_of q r) (codes cut)
 
-pub opens_at : (q i n : ℕ) (cut near : List ℕ) (next : Option ℕ) → q ≤ 80 → length near ≡ 80 → length cut ≡ q → FirstOpen (cube_of q near) (codes cut) next → next ≡ Some i → n ≡ code_at cut 0 i
+pub opens_at : (q i n : ℕ) (cut near : List ℕ) (next : Option ℕ) → q ≤ 80 → length near ≡ 80 → length cut ≡ q
+    → FirstOpen (cube_of q near) (codes cut) next → next ≡ Some i → n ≡ code_at cut 0 i
     → Opens q i n cut near
 opens_at q i n cut near next short long there found is read =
     record {

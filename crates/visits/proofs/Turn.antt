@@ -25,7 +25,8 @@ module _ (cs : List Cube) (p : Cube) (a b : Allowance) (pays : 0 < a.left) (paid
   begin-survives e = rw (e, visit-none p, settle-le a (record { pieces = 1; survivor = piece p }) pays, paid)
 
   -- a cut does
-  pub begin-split : (c : Cube) (later : List Cube) → visit cs p ≡ visit (c ∷ later) p → shares p c ≡ true → settle a (visit cs p) ≡ left_from (visit later) c b p
+  pub begin-split : (c : Cube) (later : List Cube) → visit cs p ≡ visit (c ∷ later) p → shares p c ≡ true
+      → settle a (visit cs p) ≡ left_from (visit later) c b p
   unfolding left_from
   begin-split c later e m = rw (e, visit-met c later p m, paid) (settle-on a 1 _ pays)
 

@@ -58,6 +58,7 @@ module _ (q : ℕ) (piece s : List ℕ) (at left : ℕ) (a : Allowance) where
 
   -- the row of those cuts
   module _ (r : Row) (can : possible (length s) q at left a ≡ true) (k : RowOf s at q left r) where
-    pub walked-row : (b : Allowance) (o : Outcome (List ℕ)) → b ≡ a → says r.size o ≡ settle b (visit (cubes_of r) (cube_of r.size piece)) → says q o ≡ walked q piece s at left a
+    pub walked-row : (b : Allowance) (o : Outcome (List ℕ)) → b ≡ a → says r.size o ≡ settle b (visit (cubes_of r) (cube_of r.size piece))
+        → says q o ≡ walked q piece s at left a
     unfolding cubes_of
     walked-row b o eb e = (rw (k.size, k.bytes, k.count, slices-cubes q s at left, eb) at e) ∙ sym (walked-settles (possible-fits (length s) q at left a can))

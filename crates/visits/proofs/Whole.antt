@@ -45,7 +45,8 @@ unfolding wholes_at
 from-lengths q s at zero h = tt
 from-lengths q s at (suc n) h = let e = suc-mul n q in (cut-length q s at (omega arith), from-lengths q s (at + q) n (omega arith))
 
-with-allowance : (a b : Allowance) (s : Survivor) → ◌≡◌ {A = Said} (record { allowance = a; verdict = (said_of b s).verdict; piece = (said_of b s).piece }) (said_of a s)
+with-allowance : (a b : Allowance) (s : Survivor)
+    → ◌≡◌ {A = Said} (record { allowance = a; verdict = (said_of b s).verdict; piece = (said_of b s).piece }) (said_of a s)
 with-allowance a b nothing = refl
 with-allowance a b (piece p) = refl
 
@@ -97,7 +98,8 @@ module _ (r : Row) (cuts : List (List ℕ)) (l : Loaded r cuts r.count) where
     whole =
         let z : (r.count - r.count) * r.size ≡ 0 = let y : r.count - r.count ≡ 0 = omega arith in rw (y, zero-mul) in
         let t : pad_found (320 - 4 * r.size) (visit (wholes_at r.size r.bytes.now 0 r.count) p) ≡ visit (cuts_below cuts r.count) P =
-        sym (visit-pad (320 - 4 * r.size) (4 * r.size) (wholes_at r.size r.bytes.now 0 r.count) p (from-lengths r.size r.bytes.now 0 r.count (omega (arith, r.within))) lp)
+        sym (visit-pad (320 - 4 * r.size) (4 * r.size) (wholes_at r.size r.bytes.now 0 r.count) p
+        (from-lengths r.size r.bytes.now 0 r.count (omega (arith, r.within))) lp)
         ∙ rw (eP, loaded-cuts r.count (omega arith), z) in
         rw (row-cubes r) t
 
@@ -121,7 +123,8 @@ kept-take Undecided (suc w) p = refl
 abbrev trim : ℕ → Said → Said
 trim w d = record { allowance = d.allowance; verdict = d.verdict; piece = take w d.piece }
 
-trim-settle : (w u : ℕ) (a : Allowance) (v : Found) → ((p : Cube) → v.survivor ≡ piece p → length p ≡ w) → trim w (settle a (pad_found u v)) ≡ settle a v
+trim-settle : (w u : ℕ) (a : Allowance) (v : Found) → ((p : Cube) → v.survivor ≡ piece p → length p ≡ w)
+    → trim w (settle a (pad_found u v)) ≡ settle a v
 trim-settle w u a v h = ⊎_elim short enough (below_or a.left v.pieces)
   where
     take-nil : (w : ℕ) → take {A = Code} w [] ≡ []
@@ -172,7 +175,8 @@ module _ (q few : ℕ) (a b : Allowance) (v : Found) (r : Outcome (List ℕ)) (i
       let s : o.allowance.spent ≡ a.spent + v.pieces = omega (arith, t.spent, spent-is) in
       let x : o.allowance ≡ after a v.pieces = λ i. record { left = l i; spent = s i } in
       rw (settle-le a v p, x, t.verdict, t.piece)
-      (ap (λ (d : Said). record { allowance = after a v.pieces; verdict = d.verdict; piece = d.piece }) (e ∙ settle-le b v paid) ∙ with-allowance (after a v.pieces) (after b v.pieces) v.survivor)
+      (ap (λ (d : Said). record { allowance = after a v.pieces; verdict = d.verdict; piece = d.piece }) (e ∙ settle-le b v paid) ∙ with-allowance
+      (after a v.pieces) (after b v.pieces) v.survivor)
 
 pub zeros : (n k : ℕ) → get_or {A = ℕ} (replicate n 0) k 0 ≡ 0
 zeros zero k = refl

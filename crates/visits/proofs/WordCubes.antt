@@ -28,7 +28,8 @@ tabled-ext (suc n) f i [] e t = absurd (omega arith)
 tabled-ext (suc n) f i (x ∷ p) e t =
     let z : i + 0 ≡ i = omega arith in
     let h : f i ≡ x = rw z at (t 0 (omega arith)) in
-    rw h (ap (λ (c : Cube). x ∷ c) (tabled-ext n f (suc i) p (omega arith) (λ k l. let s : suc i + k ≡ i + suc k = omega arith in rw s (t (suc k) (omega arith)))))
+    rw h (ap (λ (c : Cube). x ∷ c) (tabled-ext n f (suc i) p (omega arith)
+    (λ k l. let s : suc i + k ≡ i + suc k = omega arith in rw s (t (suc k) (omega arith)))))
 
 pub words-ext : (ws : List ℕ) (p : Cube) → length p ≡ 320 → ((i : ℕ) → i < 320 → code_in ws i ≡ get_or p i none) → cube_of_words ws ≡ p
 unfolding cube_of_words
@@ -55,7 +56,8 @@ words-given ws i v r l h g =
     elsewhere : (j : ℕ) → j < 320 → (j ≡ i → ⊥) → code_in (set ws (i / 32) r) j ≡ get_or (set (cube_of_words ws) i (code_of v)) j none
     elsewhere j k n =
         rw (get_or-set_other (cube_of_words ws) i j (code_of v) none n, words-at ws j k)
-        (⊎_elim (λ (e : j / 32 ≡ i / 32). rw (e, get_or-set_same ws (i / 32) r 0 within) (ap code_of (g.1 (j % 32) (omega arith) (λ (q : j % 32 ≡ i % 32). n (omega arith)))))
+        (⊎_elim (λ (e : j / 32 ≡ i / 32). rw (e, get_or-set_same ws (i / 32) r 0 within)
+        (ap code_of (g.1 (j % 32) (omega arith) (λ (q : j % 32 ≡ i % 32). n (omega arith)))))
         (λ (e : j / 32 ≡ i / 32 → ⊥). rw (get_or-set_other ws (i / 32) (j / 32) r 0 e)) (same_or_not (j / 32) (i / 32)))
 
 -- the first position that opens
@@ -73,7 +75,8 @@ before-first [] c j e h = absurd (omega arith)
 before-first (x ∷ p) [] j e h = absurd (omega arith)
 before-first (x ∷ p) (y ∷ c) j e h = go (opens x y) refl j h (before-first p c)
   where
-    go : (b : Bool) → opens x y ≡ b → (j : ℕ) → j < cond b 0 (suc (first_open p c)) → ((j : ℕ) → length p ≡ length c → j < first_open p c → opens (get_or p j none) (get_or c j none) ≡ false)
+    go : (b : Bool) → opens x y ≡ b → (j : ℕ) → j < cond b 0 (suc (first_open p c))
+        → ((j : ℕ) → length p ≡ length c → j < first_open p c → opens (get_or p j none) (get_or c j none) ≡ false)
         → opens (get_or (x ∷ p) j none) (get_or (y ∷ c) j none) ≡ false
     go true q j l ih = absurd (omega arith)
     go false q zero l ih = q

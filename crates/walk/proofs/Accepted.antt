@@ -104,11 +104,13 @@ module _ (w q u n i : ℕ) (v : Found) (r : Result Allowance Stop) (h : w ≤ 4 
       by (Ok left) (c, l) = covered-said o.verdict o.allowance left (cube_of q o.piece) c l ∙ e
       by (Err x) (d, is) = is q ∙ ap (decision i) e
 
-pub ends-told : (w q u n : ℕ) (vs : List Found) (r : Result Allowance Stop) → w ≤ 4 * q → ((p : Cube) → (in_turn (λ v. v) vs).survivor ≡ piece p → Sized w p)
+pub ends-told : (w q u n : ℕ) (vs : List Found) (r : Result Allowance Stop) → w ≤ 4 * q
+    → ((p : Cube) → (in_turn (λ v. v) vs).survivor ≡ piece p → Sized w p)
     → Ended q (record { left = n; spent = 0 }) 0 (map (pad_found u) vs) r → told_of w r ≡ deciding w (decide n (stop n vs) (in_turn (λ v. v) vs))
 ends-told w q u n vs r h l e = settled-told w q u n (stop n vs) (in_turn (λ v. v) vs) r h l (by r e)
   where
-    all : settle (record { left = n; spent = 0 }) (in_turn (λ v. v) (map (pad_found u) vs)) ≡ settle (record { left = n; spent = 0 }) (pad_found u (in_turn (λ v. v) vs))
+    all : settle (record { left = n; spent = 0 }) (in_turn (λ v. v) (map (pad_found u) vs)) ≡ settle (record { left = n; spent = 0 })
+        (pad_found u (in_turn (λ v. v) vs))
     all = ap (settle (record { left = n; spent = 0 })) (turn-padded w u vs)
 
     by : (r : Result Allowance Stop) → Ended q (record { left = n; spent = 0 }) 0 (map (pad_found u) vs) r

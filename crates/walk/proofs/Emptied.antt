@@ -119,7 +119,8 @@ module _ {s : List ℕ} {a have : Allowance} {at i n : ℕ} (x : FileLeft s a ha
       empty (d ∷ r) e = absurd (omega arith)
 
   pub file-inside : i < n → at < length s
-  file-inside h = ⊎_elim (λ (l : at < length s). l) (λ (l : length s ≤ at). absurd (omega (arith, x.all, ap length (region-end (width_of s) s at l)))) (cases_lt at (length s))
+  file-inside h = ⊎_elim (λ (l : at < length s). l) (λ (l : length s ≤ at). absurd
+      (omega (arith, x.all, ap length (region-end (width_of s) s at l)))) (cases_lt at (length s))
 
   module _ (h : i < n) {d : Difference} (j : DifferenceAt (width_of s) s at d) (o : Outcome (List ℕ))
       (e : says (length d.base.now) o ≡ settle have (walk (difference_of d))) where

@@ -150,7 +150,8 @@ frees-lost (x ∷ b) (y ∷ c) e =
     go false = omega arith
 
 -- the AND with one cut more marks what that cut fixes
-lost-more : (x y z : Code) → coded (meet_code x z) ≡ true → (is_free x && not (is_free (meet_code y z))) ≡ (opens x z || (is_free x && not (is_free y)))
+lost-more : (x y z : Code) → coded (meet_code x z) ≡ true
+    → (is_free x && not (is_free (meet_code y z))) ≡ (opens x z || (is_free x && not (is_free y)))
 lost-more none y z e = refl
 lost-more v0 y z e = refl
 lost-more v1 y z e = refl

@@ -79,7 +79,8 @@ pub record Counted (b : List ℕ) (all rest : List (List ℕ)) (t : Tally) : Typ
   pub whole : all ≡ rest ++ behind
   pub tally : Tallied b (map codes behind) t
 
-pub counted-none : {b : List ℕ} {all : List (List ℕ)} {t : Tally} → AllLong (length b) all → t.met + length all ≤ most_cuts → Tallied b [] t → Counted b all all t
+pub counted-none : {b : List ℕ} {all : List (List ℕ)} {t : Tally} → AllLong (length b) all → t.met + length all ≤ most_cuts → Tallied b [] t
+    → Counted b all all t
 counted-none {b} {all} l f h = record { long = l; few = f; behind = []; whole = sym (append-nil all); tally = h }
 
 pub counted-all : {b : List ℕ} {all rest : List (List ℕ)} {t : Tally} → Counted b all rest t → rest ≡ [] → Tallied b (map codes all) t
@@ -104,7 +105,8 @@ module _ {b : List ℕ} {all rest : List (List ℕ)} {t : Tally} (h : Counted b 
       }
 
 -- what is said of a tally's base is said of that base
-pub counted-with : {b : Bor (List ℕ)} {c : Cube} {t r : Tally} → t.base ≡ b → ((cs : List Cube) → Tallied t.base.now cs t → Tallied t.base.now (c ∷ cs) r)
+pub counted-with : {b : Bor (List ℕ)} {c : Cube} {t r : Tally} → t.base ≡ b
+    → ((cs : List Cube) → Tallied t.base.now cs t → Tallied t.base.now (c ∷ cs) r)
     → (cs : List Cube) → Tallied b.now cs t → Tallied b.now (c ∷ cs) r
 counted-with {b} {c} {t} {r} e = subst (λ (x : Bor (List ℕ)). (cs : List Cube) → Tallied x.now cs t → Tallied x.now (c ∷ cs) r) e
 

@@ -5,7 +5,7 @@ ghost use Rattle.format.specs.Limits.{widest_cube, most_cuts};
 ghost use Rattle.cube.specs.Whole.{cube_of};
 ghost use Rattle.region.specs.Difference.{difference_of};
 ghost use Rattle.visits.specs.Settle.{settle, says};
-ghost use Rattle.walk.specs.Lent.{cubes_of};
+ghost use Rattle.visits.specs.Cuts.{cubes_of};
 
 use cube::{Row, WIDEST_CUBE, put};
 use region::Difference;

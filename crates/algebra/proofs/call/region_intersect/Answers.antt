@@ -33,4 +33,5 @@ returns c =
     let first = c.in-Ok.ensures in
     let second = c.in-Ok-check_file.ensures in
     let one_width = sym first.width ∙ c.if-first-second.false ∙ second.width in
-    told-ends c.write_region.ensures (region_intersect-told (file-read first) _ _ first.width c.first_at.ensures (file-read second) one_width _ c.first_at-2.ensures _)
+    told-ends c.write_region.ensures (region_intersect-told (file-read first) _ _ first.width c.first_at.ensures (file-read second) one_width _
+    c.first_at-2.ensures _)

@@ -10,7 +10,8 @@ pub returns-in_err-sum : goal.returns-in_err-sum
 returns-in_err-sum c =
     let back : c.from_residual.result ≡ Err c.in_err-sum.field-0.0 = search rules in
     let x = c.args.task.now in
-    permits-long x.width c.args.out.now _ c.run.auto.out (total x.operation (cube_len x.width) x.s.now x.first x.t.now x.start) _ _ back c.in_err-sum.ensures.1 c.in_err-sum.ensures.0
+    permits-long x.width c.args.out.now _ c.run.auto.out (total x.operation (cube_len x.width) x.s.now x.first x.t.now x.start) _ _ back
+    c.in_err-sum.ensures.1 c.in_err-sum.ensures.0
 
 pub returns-then-sum-gt-MOST_DIFFERENCES : goal.returns-then-sum-gt-MOST_DIFFERENCES
 returns-then-sum-gt-MOST_DIFFERENCES c =

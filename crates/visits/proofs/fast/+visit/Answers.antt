@@ -38,7 +38,8 @@ returns-then-alive-eq0-clause-said t c =
     let a = child-alive _ _ _ _ v.0 o g.cuts.now g.n g.against.now _ v.3 c.requires.3 c.given.result _ c.given.ensures c.narrow-alive.ensures in
     sym
     ((begun _ _ _ _ _ (pos_of_ne-zero c.if-a-eq0.false) c.spend-have.ensures c.requires.1 ∙ v.2)
-    ∙ child-stops _ _ _ _ v.0 o _ _ _ c.given.ensures _ (c.last.ensures ∙ ap (settle c.loop-next.have.allowance) (sym (alive-none _ _ _ _ a c.if-alive-eq0.true)))
+    ∙ child-stops _ _ _ _ v.0 o _ _ _ c.given.ensures _ (c.last.ensures ∙ ap (settle c.loop-next.have.allowance)
+    (sym (alive-none _ _ _ _ a c.if-alive-eq0.true)))
     (λ q. survives-stops _ _ (sym (ap (λ (x : Said). x.verdict) c.last.ensures) ∙ q)))
 
 pub visit-reply-requires : goal.visit-reply-requires
@@ -99,7 +100,8 @@ of-have-requires t c =
       arith,
       told-sum g.cuts.now g.n c.loop-next.have.allowance _ c.match-known.reply c.match-known.slots (
           elim c.match-known.branch [
-            | in-Some-known w ↦ told-known _ _ _ _ _ a _ _ w.reply-is _ _ w.slots-is v.4 _ (c.look-known.ensures _ w.in-Some-known.is _ v.4 _ a) w.pay-reply.ensures
+            | in-Some-known w ↦ told-known _ _ _ _ _ a _ _ w.reply-is _ _ w.slots-is v.4 _ (c.look-known.ensures _ w.in-Some-known.is _ v.4 _ a)
+                w.pay-reply.ensures
             | in-None w ↦ told-visited _ _ _ _ _ a _ _ w.reply-is _ _ w.slots-is w.visit-reply.ensures.kept _ w.top-m.ensures w.visit-reply.ensures.said
           ]),
       c.loop-next.have.counted,
@@ -128,7 +130,8 @@ pub loop-next-smaller : goal.loop-next-smaller
 loop-next-smaller t c =
     let v = c.loop-next.invariant in
     let o = opened _ _ _ _ _ c.loop-next.invariant.1 c.in-Some.is c.number_in-y.ensures.0 in
-    let p = ap cube_of_words (set-set c.loop-next.near (c.in-Some.i / 32) c.given.result c.given-in-Some.result) ∙ took-cube c.loop-next.near c.in-Some.i _ c.given-in-Some.result v.0 o.inside c.given-in-Some.ensures in
+    let p = ap cube_of_words (set-set c.loop-next.near (c.in-Some.i / 32) c.given.result c.given-in-Some.result) ∙ took-cube c.loop-next.near
+    c.in-Some.i _ c.given-in-Some.result v.0 o.inside c.given-in-Some.ensures in
     omega (arith, o.first, o.inside, later_first _ _ _ _ _ o p)
 
 pub loop-next-preserved : goal.loop-next-preserved
@@ -137,14 +140,17 @@ loop-next-preserved t c =
     let v = c.loop-next.invariant in
     let o = opened _ _ _ _ _ c.loop-next.invariant.1 c.in-Some.is c.number_in-y.ensures.0 in
     let a = child-alive _ _ _ _ v.0 o g.cuts.now g.n g.against.now _ v.3 c.requires.3 c.given.result _ c.given.ensures c.narrow-alive.ensures in
-    let r : Told g.cuts.now g.n c.loop-next.have.allowance (cube_of_words (set c.loop-next.near (c.in-Some.i / 32) c.given.result)) c.match-known.reply c.match-known.slots =
+    let r : Told g.cuts.now g.n c.loop-next.have.allowance (cube_of_words (set c.loop-next.near (c.in-Some.i / 32) c.given.result))
+    c.match-known.reply c.match-known.slots =
     elim c.match-known.branch [
       | in-Some-known w ↦ told-known _ _ _ _ _ a _ _ w.reply-is _ _ w.slots-is v.4 _ (c.look-known.ensures _ w.in-Some-known.is _ v.4 _ a) w.pay-reply.ensures
       | in-None w ↦ told-visited _ _ _ _ _ a _ _ w.reply-is _ _ w.slots-is w.visit-reply.ensures.kept _ w.top-m.ensures w.visit-reply.ensures.said
     ] in
-    let p = ap cube_of_words (set-set c.loop-next.near (c.in-Some.i / 32) c.given.result c.given-in-Some.result) ∙ took-cube c.loop-next.near c.in-Some.i _ c.given-in-Some.result v.0 o.inside c.given-in-Some.ensures in
+    let p = ap cube_of_words (set-set c.loop-next.near (c.in-Some.i / 32) c.given.result c.given-in-Some.result) ∙ took-cube c.loop-next.near
+    c.in-Some.i _ c.given-in-Some.result v.0 o.inside c.given-in-Some.ensures in
     let b = told-count _ _ _ _ _ _ r c.in-Covered.is in (
-      length-set (set c.loop-next.near (c.in-Some.i / 32) c.given.result) (c.in-Some.i / 32) c.given-in-Some.result ∙ length-set c.loop-next.near (c.in-Some.i / 32) c.given.result ∙ v.0,
+      length-set (set c.loop-next.near (c.in-Some.i / 32) c.given.result) (c.in-Some.i / 32) c.given-in-Some.result ∙ length-set c.loop-next.near
+          (c.in-Some.i / 32) c.given.result ∙ v.0,
       c.next_open-next-in-Some.ensures,
       rw c.of-have.ensures (v.2 ∙ child-covered _ _ _ _ v.0 o _ _ _ c.given.ensures _ r.said c.in-Covered.is _ p),
       rw (set-set c.loop-next.near (c.in-Some.i / 32) c.given.result c.given-in-Some.result)
@@ -155,15 +161,18 @@ loop-next-preserved t c =
 pub returns-clause-said : goal.returns-clause-said
 returns-clause-said t c =
     let v = c.loop-next.invariant in
-    sym ((begun _ _ _ _ _ (pos_of_ne-zero c.if-a-eq0.false) c.spend-have.ensures c.requires.1 ∙ v.2) ∙ none-opens _ _ _ _ _ c.loop-next.invariant.1 (search rules))
+    sym ((begun _ _ _ _ _ (pos_of_ne-zero c.if-a-eq0.false) c.spend-have.ensures c.requires.1 ∙ v.2) ∙ none-opens _ _ _ _ _ c.loop-next.invariant.1
+    (search rules))
 
 pub next_open-next-requires-in-Some : goal.next_open-next-requires-in-Some
 next_open-next-requires-in-Some t c =
     let v = c.loop-next.invariant in
     let o = opened _ _ _ _ _ c.loop-next.invariant.1 c.in-Some.is c.number_in-y.ensures.0 in
-    let p = ap cube_of_words (set-set c.loop-next.near (c.in-Some.i / 32) c.given.result c.given-in-Some.result) ∙ took-cube c.loop-next.near c.in-Some.i _ c.given-in-Some.result v.0 o.inside c.given-in-Some.ensures in
+    let p = ap cube_of_words (set-set c.loop-next.near (c.in-Some.i / 32) c.given.result c.given-in-Some.result) ∙ took-cube c.loop-next.near
+    c.in-Some.i _ c.given-in-Some.result v.0 o.inside c.given-in-Some.ensures in
     words-passed _ _ _
-    (length-set (set c.loop-next.near (c.in-Some.i / 32) c.given.result) (c.in-Some.i / 32) c.given-in-Some.result ∙ length-set c.loop-next.near (c.in-Some.i / 32) c.given.result ∙ v.0)
+    (length-set (set c.loop-next.near (c.in-Some.i / 32) c.given.result) (c.in-Some.i / 32) c.given-in-Some.result ∙ length-set c.loop-next.near
+    (c.in-Some.i / 32) c.given.result ∙ v.0)
     (search rules) (omega (arith, later_first _ _ _ _ _ o p))
 
 pub next_open-next-requires : goal.next_open-next-requires

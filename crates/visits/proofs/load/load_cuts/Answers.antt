@@ -9,4 +9,5 @@ load-requires c = rw c.cut_of.ensures (omega (arith, row-size c.args.cuts.row c.
 
 pub loop-m-preserved : goal.loop-m-preserved
 loop-m-preserved c =
-    row_more c.args.cuts.row c.loop-m.table c.loop-m.m c.load.result (search rules) (rw (c.cut_of.ensures, row-size c.args.cuts.row c.loop-m.m c.loop-m-test.true) at c.load.ensures) c.loop-m.invariant
+    row_more c.args.cuts.row c.loop-m.table c.loop-m.m c.load.result (search rules)
+    (rw (c.cut_of.ensures, row-size c.args.cuts.row c.loop-m.m c.loop-m-test.true) at c.load.ensures) c.loop-m.invariant

@@ -30,7 +30,8 @@ begin-requires c =
     let lp = cube-length g.cuts.row.size g.piece (search rules) in (
       search rules,
       elim c.if-n-row.branch [
-        | then-n-row w ↦ λ e. first-met g.cuts.row _ c.load_cuts.ensures _ _ lp base n w.if-n-row.true (ap (λ s. shares _ (codes s)) (sym w.cut_of.ensures) ∙ sym w.meets-first.ensures ∙ sym w.first-is ∙ e)
+        | then-n-row w ↦ λ e. first-met g.cuts.row _ c.load_cuts.ensures _ _ lp base n w.if-n-row.true
+            (ap (λ s. shares _ (codes s)) (sym w.cut_of.ensures) ∙ sym w.meets-first.ensures ∙ sym w.first-is ∙ e)
         | else-n-row w ↦ λ e. absurd (true≢false (sym e ∙ w.first-is ∙ le-ltb _ _ w.if-n-row.false))
       ],
       loaded-alive g.cuts.row _ c.load_cuts.ensures _ _ lp base n _ (omega (arith, c.min-n.ensures)) c.alive_of-alive.ensures,
@@ -45,9 +46,11 @@ returns c =
     let n = c.min-n.result in
     let base = rw (front_length g.cuts.row.size g.piece (search rules)) at c.load.ensures in
     let lp = cube-length g.cuts.row.size g.piece (search rules) in
-    let passed : visit (cuts_below c.load_cuts.new.table (cond c.if-n-row.first (suc n) n)) (cube_of_words c.load.result) ≡ visit (cuts_below c.load_cuts.new.table g.cuts.row.count) (cube_of_words c.load.result) =
+    let passed : visit (cuts_below c.load_cuts.new.table (cond c.if-n-row.first (suc n) n)) (cube_of_words c.load.result) ≡ visit
+    (cuts_below c.load_cuts.new.table g.cuts.row.count) (cube_of_words c.load.result) =
     elim c.if-n-row.branch [
-      | then-n-row w ↦ first-passed g.cuts.row _ c.load_cuts.ensures _ _ lp base n _ c.min-n.ensures g.cuts.few w.if-n-row.true (w.first-is ∙ w.meets-first.ensures ∙ ap (λ s. shares _ (codes s)) w.cut_of.ensures)
+      | then-n-row w ↦ first-passed g.cuts.row _ c.load_cuts.ensures _ _ lp base n _ c.min-n.ensures g.cuts.few w.if-n-row.true
+          (w.first-is ∙ w.meets-first.ensures ∙ ap (λ s. shares _ (codes s)) w.cut_of.ensures)
       | else-n-row w ↦ rw (w.first-is, le-ltb _ _ w.if-n-row.false) (first-none g.cuts.row _ c.load_cuts.ensures _ _ lp base n c.min-n.ensures w.if-n-row.false)
     ] in
     in-bytes-says g.cuts.row.size (320 - 4 * g.cuts.row.size) g.a.allowance _ c.begin.result c.in_bytes.result

@@ -16,7 +16,8 @@ loop-x-preserved c =
     let g = c.args in (
       omega (arith, c.after_top-x.ensures, c.loop-x.invariant.0),
       omega (arith, c.after_top-x.ensures, c.loop-x.invariant.1),
-      common-turn g.cuts.now g.alive c.loop-x.x _ c.top-j.result c.loop-x.m _ c.top-j.ensures.1 c.top-j.ensures.2 c.after_top-x.ensures c.meet.ensures c.loop-x.invariant.2,
+      common-turn g.cuts.now g.alive c.loop-x.x _ c.top-j.result c.loop-x.m _ c.top-j.ensures.1 c.top-j.ensures.2 c.after_top-x.ensures
+          c.meet.ensures c.loop-x.invariant.2,
     )
 
 pub returns : goal.returns

@@ -28,7 +28,12 @@ overflow_add-against-in-Some c =
     let g = c.args in
     let o = opened _ _ _ _ _ c.loop-next.invariant.1 c.in-Some.is c.number_in-y.ensures.0 in
     let k = 2 * c.in-Some.i + (2 - c.number_in-y.result) in
-    omega (arith, enter-fits g.against.now (cube_of_words c.loop-next.near) g.one c.loop-next.against c.loop-next.invariant.2 c.in-Some.i c.number_in-y.result o.inside o.least o.most o.unfixed, c.requires k (omega (arith, o.inside, o.least, o.most)))
+    omega (
+      arith,
+      enter-fits g.against.now (cube_of_words c.loop-next.near) g.one c.loop-next.against c.loop-next.invariant.2 c.in-Some.i
+          c.number_in-y.result o.inside o.least o.most o.unfixed,
+      c.requires k (omega (arith, o.inside, o.least, o.most)),
+    )
 
 pub bounds-against-i-in-Some : goal.bounds-against-i-in-Some
 bounds-against-i-in-Some c =
@@ -54,14 +59,17 @@ loop-next-preserved c =
     let t = took-cube c.loop-next.near c.in-Some.i _ c.given.result c.loop-next.invariant.0 o.inside c.given.ensures in (
       length-set c.loop-next.near (c.in-Some.i / 32) c.given.result ∙ v.0,
       c.next_open-next-in-Some.ensures,
-      enter-turn g.against.now (cube_of_words c.loop-next.near) g.one c.loop-next.against v.2 c.in-Some.i c.number_in-y.result o.inside o.least o.most o.unfixed (words-length c.loop-next.near) _ (search rules) t,
-      agree-turn (cube_of_words c.loop-next.near) (cube_of_words g.cut.now) c.in-Some.i _ _ (omega (arith, words-length c.loop-next.near, o.inside)) t o.fixed v.3,
+      enter-turn g.against.now (cube_of_words c.loop-next.near) g.one c.loop-next.against v.2 c.in-Some.i c.number_in-y.result o.inside o.least
+          o.most o.unfixed (words-length c.loop-next.near) _ (search rules) t,
+      agree-turn (cube_of_words c.loop-next.near) (cube_of_words g.cut.now) c.in-Some.i _ _ (omega (arith, words-length c.loop-next.near, o.inside))
+          t o.fixed v.3,
     )
 
 pub returns : goal.returns
 returns c =
     let v = c.loop-next.invariant in
-    enter-end c.args.against.now c.loop-next.near c.args.cut.now c.args.one c.loop-next.against (omega (arith, words-length c.loop-next.near, c.loop-next.invariant.1.none_left (search rules))) v.3 v.2
+    enter-end c.args.against.now c.loop-next.near c.args.cut.now c.args.one c.loop-next.against
+    (omega (arith, words-length c.loop-next.near, c.loop-next.invariant.1.none_left (search rules))) v.3 v.2
 
 pub number_in-y-requires : goal.number_in-y-requires
 number_in-y-requires c = open-inside _ _ _ _ c.loop-next.invariant.1 c.in-Some.is

@@ -28,16 +28,20 @@ loop-next-init t c = (search rules, c.next_open-next.ensures, refl)
 
 pub other-requires : goal.other-requires
 other-requires t c =
-    let o = opens_at c.args.cuts.row.size c.in-Some-next.i c.code_at-y.result c.in-Some.cut.now c.loop-next.near _ c.args.cuts.narrow c.loop-next.invariant.0 c.in-Some.ensures.long c.loop-next.invariant.1 c.in-Some-next.is c.code_at-y.ensures in
+    let o = opens_at c.args.cuts.row.size c.in-Some-next.i c.code_at-y.result c.in-Some.cut.now c.loop-next.near _ c.args.cuts.narrow
+    c.loop-next.invariant.0 c.in-Some.ensures.long c.loop-next.invariant.1 c.in-Some-next.is c.code_at-y.ensures in
     o.small
 
 pub returns-in_default-verdict : goal.returns-in_default-verdict
 unfolding cube_of
 returns-in_default-verdict t c =
-    let o = opens_at c.args.cuts.row.size c.in-Some-next.i c.code_at-y.result c.in-Some.cut.now c.loop-next.near _ c.args.cuts.narrow c.loop-next.invariant.0 c.in-Some.ensures.long c.loop-next.invariant.1 c.in-Some-next.is c.code_at-y.ensures in
+    let o = opens_at c.args.cuts.row.size c.in-Some-next.i c.code_at-y.result c.in-Some.cut.now c.loop-next.near _ c.args.cuts.narrow
+    c.loop-next.invariant.0 c.in-Some.ensures.long c.loop-next.invariant.1 c.in-Some-next.is c.code_at-y.ensures in
     let g = piece-given c.loop-next.near c.set_code.new.c _ _ (search rules) c.set_code.ensures in
     let r = simp c.in-Some.ensures.size at c.visit-reply.ensures in
-    sym ((begin-split _ _ _ _ (pos_of_ne-zero c.if-a-eq0.false) c.spend-have.ensures _ _ c.in-Some.ensures.same c.in-Some.ensures.meets ∙ c.loop-next.invariant.2) ∙ turn-stop _ _ _ _ o.even _ o.first o.inside _ _ o.code (o.other _ c.other.ensures) _ (g.cube _ o.under) _ r c.in_default-verdict.not-Covered)
+    sym ((begin-split _ _ _ _ (pos_of_ne-zero c.if-a-eq0.false) c.spend-have.ensures _ _ c.in-Some.ensures.same c.in-Some.ensures.meets
+    ∙ c.loop-next.invariant.2) ∙ turn-stop _ _ _ _ o.even _ o.first o.inside _ _ o.code (o.other _ c.other.ensures) _ (g.cube _ o.under) _ r
+    c.in_default-verdict.not-Covered)
 
 pub of-have-requires : goal.of-have-requires
 of-have-requires t c = omega (arith, settle-keeps _ _ _ c.visit-reply.ensures, c.loop-next.have.counted)
@@ -45,9 +49,11 @@ of-have-requires t c = omega (arith, settle-keeps _ _ _ c.visit-reply.ensures, c
 pub next_open-next-requires-in-Some-next : goal.next_open-next-requires-in-Some-next
 unfolding cube_of
 next_open-next-requires-in-Some-next t c =
-    let o = opens_at c.args.cuts.row.size c.in-Some-next.i c.code_at-y.result c.in-Some.cut.now c.loop-next.near _ c.args.cuts.narrow c.loop-next.invariant.0 c.in-Some.ensures.long c.loop-next.invariant.1 c.in-Some-next.is c.code_at-y.ensures in
+    let o = opens_at c.args.cuts.row.size c.in-Some-next.i c.code_at-y.result c.in-Some.cut.now c.loop-next.near _ c.args.cuts.narrow
+    c.loop-next.invariant.0 c.in-Some.ensures.long c.loop-next.invariant.1 c.in-Some-next.is c.code_at-y.ensures in
     let g = piece-given c.loop-next.near c.set_code-in-Some-next.new.c _ _ (search rules)
-    (c.set_code-in-Some-next.ensures ∙ ap (λ p. set p c.in-Some-next.i (code_of c.code_at-y.result)) c.set_code.ensures ∙ set-set (codes c.loop-next.near) _ _ _) in
+    (c.set_code-in-Some-next.ensures ∙ ap (λ p. set p c.in-Some-next.i (code_of c.code_at-y.result)) c.set_code.ensures ∙ set-set
+    (codes c.loop-next.near) _ _ _) in
     let l = front_length c.args.cuts.row.size c.set_code-in-Some-next.new.c (omega (arith, c.args.cuts.narrow, g.long)) in
     bytes-passed _ _ _ (l ∙ sym c.in-Some.ensures.long) (omega (arith, l, c.args.cuts.narrow)) (omega (arith, o.later c.set_code-in-Some-next.new.c g))
 
@@ -58,18 +64,22 @@ next_open-next-requires t c =
 
 pub loop-next-smaller : goal.loop-next-smaller
 loop-next-smaller t c =
-    let o = opens_at c.args.cuts.row.size c.in-Some-next.i c.code_at-y.result c.in-Some.cut.now c.loop-next.near _ c.args.cuts.narrow c.loop-next.invariant.0 c.in-Some.ensures.long c.loop-next.invariant.1 c.in-Some-next.is c.code_at-y.ensures in
+    let o = opens_at c.args.cuts.row.size c.in-Some-next.i c.code_at-y.result c.in-Some.cut.now c.loop-next.near _ c.args.cuts.narrow
+    c.loop-next.invariant.0 c.in-Some.ensures.long c.loop-next.invariant.1 c.in-Some-next.is c.code_at-y.ensures in
     let g = piece-given c.loop-next.near c.set_code-in-Some-next.new.c _ _ (search rules)
-    (c.set_code-in-Some-next.ensures ∙ ap (λ p. set p c.in-Some-next.i (code_of c.code_at-y.result)) c.set_code.ensures ∙ set-set (codes c.loop-next.near) _ _ _) in
+    (c.set_code-in-Some-next.ensures ∙ ap (λ p. set p c.in-Some-next.i (code_of c.code_at-y.result)) c.set_code.ensures ∙ set-set
+    (codes c.loop-next.near) _ _ _) in
     omega (arith, o.later c.set_code-in-Some-next.new.c g, o.first, o.under)
 
 pub loop-next-preserved : goal.loop-next-preserved
 unfolding cube_of
 loop-next-preserved t c =
-    let o = opens_at c.args.cuts.row.size c.in-Some-next.i c.code_at-y.result c.in-Some.cut.now c.loop-next.near _ c.args.cuts.narrow c.loop-next.invariant.0 c.in-Some.ensures.long c.loop-next.invariant.1 c.in-Some-next.is c.code_at-y.ensures in
+    let o = opens_at c.args.cuts.row.size c.in-Some-next.i c.code_at-y.result c.in-Some.cut.now c.loop-next.near _ c.args.cuts.narrow
+    c.loop-next.invariant.0 c.in-Some.ensures.long c.loop-next.invariant.1 c.in-Some-next.is c.code_at-y.ensures in
     let h = piece-given c.loop-next.near c.set_code.new.c _ _ (search rules) c.set_code.ensures in
     let g = piece-given c.loop-next.near c.set_code-in-Some-next.new.c _ _ (search rules)
-    (c.set_code-in-Some-next.ensures ∙ ap (λ p. set p c.in-Some-next.i (code_of c.code_at-y.result)) c.set_code.ensures ∙ set-set (codes c.loop-next.near) _ _ _) in
+    (c.set_code-in-Some-next.ensures ∙ ap (λ p. set p c.in-Some-next.i (code_of c.code_at-y.result)) c.set_code.ensures ∙ set-set
+    (codes c.loop-next.near) _ _ _) in
     let r = simp c.in-Some.ensures.size at c.visit-reply.ensures in (
       g.long,
       c.next_open-next-in-Some-next.ensures,
@@ -84,4 +94,5 @@ returns t c =
     let near = cube-length c.args.cuts.row.size c.loop-next.near (omega (arith, c.args.cuts.narrow, c.loop-next.invariant.0)) in
     let cut = length-codes c.in-Some.cut.now in
     sym
-    ((begin-split _ _ _ _ (pos_of_ne-zero c.if-a-eq0.false) c.spend-have.ensures _ _ c.in-Some.ensures.same c.in-Some.ensures.meets ∙ c.loop-next.invariant.2) ∙ turn_end _ _ _ _ (omega (arith, near, cut, c.in-Some.ensures.long)) (c.loop-next.invariant.1.none_left (search rules)))
+    ((begin-split _ _ _ _ (pos_of_ne-zero c.if-a-eq0.false) c.spend-have.ensures _ _ c.in-Some.ensures.same c.in-Some.ensures.meets
+    ∙ c.loop-next.invariant.2) ∙ turn_end _ _ _ _ (omega (arith, near, cut, c.in-Some.ensures.long)) (c.loop-next.invariant.1.none_left (search rules)))

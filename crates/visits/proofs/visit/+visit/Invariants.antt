@@ -16,7 +16,8 @@ abbrev pub invariant-loop-next : goal.invariant-loop-next
 invariant-loop-next l =
     (length l.near ≡ 80)
     × FirstOpen (cube_of l.q l.near) (codes l.cut) l.next
-    × (left_from (visits (cubes_of l.rest)) (codes l.cut) l.initial.have.allowance (cube_of l.q l.initial.near) ≡ left_from (visits (cubes_of l.rest)) (codes l.cut) l.have.allowance (cube_of l.q l.near))
+    × (left_from (visits (cubes_of l.rest)) (codes l.cut) l.initial.have.allowance (cube_of l.q l.initial.near) ≡ left_from
+    (visits (cubes_of l.rest)) (codes l.cut) l.have.allowance (cube_of l.q l.near))
 
 abbrev pub decreases-loop-next : goal.decreases-loop-next
 decreases-loop-next l = 4 * l.q - first_open (cube_of l.q l.near) (codes l.cut)

@@ -2,6 +2,7 @@
 use native.Mathlib.Omega.{arith}
 use mathlib.Core.List.{List}
 use mathlib.Core.Path.{◌∙◌, sym, ap}
+use Rattle.visits.specs.Cuts.{cubes_of}
 use Rattle.model.specs.Cube.{Cube}
 use Rattle.model.specs.Walk.{visit}
 use Rattle.cube.specs.Whole.{cube_of}
@@ -11,6 +12,7 @@ use Rattle.visits.proofs.Walked.{walked-settles}
 use Rattle.walk.proofs.record.visit.Goals as goal
 
 pub returns : goal.returns
+unfolding cubes_of
 returns c =
     let x = c.args in
     let cuts = x.cuts in

@@ -13,11 +13,13 @@ pub returns-then-not-meets : goal.returns-then-not-meets
 returns-then-not-meets c =
     let p = c.args.self.now in
     rw c.in-Some.is
-    (begun-none p _ _ _ c.requires.length (omega (arith, p.narrow)) refl refl c.in-Some.at (c.requires.within _ c.in-Some.is) (sym c.if-not-meets.true ∙ c.meets.ensures))
+    (begun-none p _ _ _ c.requires.length (omega (arith, p.narrow)) refl refl c.in-Some.at (c.requires.within _ c.in-Some.is)
+    (sym c.if-not-meets.true ∙ c.meets.ensures))
 
 pub returns : goal.returns
 returns c =
     let p = c.args.self.now in
     rw c.in-Some.is
-    (begun-met p _ _ _ c.requires.length (omega (arith, p.narrow)) refl refl c.in-Some.at (c.requires.within _ c.in-Some.is) (sym c.if-not-meets.false ∙ c.meets.ensures)
+    (begun-met p _ _ _ c.requires.length (omega (arith, p.narrow)) refl refl c.in-Some.at (c.requires.within _ c.in-Some.is)
+    (sym c.if-not-meets.false ∙ c.meets.ensures)
     c.meet_into.ensures)

@@ -12,7 +12,8 @@ pub returns-in_err-take_row : goal.returns-in_err-take_row
 returns-in_err-take_row c =
     let x = c.args in
     rw c.from_residual-in_err-take_row.ensures
-    (made-omitted _ _ x.t.now x.stop x.self.now c.begin.new.self _ c.begin.ensures c.in_ok-begin.was c.take_row.new.self _ c.take_row.ensures c.in_err-take_row.was)
+    (made-omitted _ _ x.t.now x.stop x.self.now c.begin.new.self _ c.begin.ensures c.in_ok-begin.was c.take_row.new.self _ c.take_row.ensures
+    c.in_err-take_row.was)
 
 pub take_row-requires-2-clause-room : goal.take_row-requires-2-clause-room
 take_row-requires-2-clause-room c =

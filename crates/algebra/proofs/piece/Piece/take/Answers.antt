@@ -25,7 +25,8 @@ returns-then-any c =
     let y = c.split_at_mut-bytes.ensures in
     cut-again c.args.self.now _ _ _ _ _ _ _ x.value y.value x.front_len x.back_len y.front_len y.back_len c.requires.length c.requires.room (omega arith)
     c.meet_into.ensures refl refl (sym c.if-not-meets.false ∙ c.meets.ensures) (sym c.if-equal.false ∙ c.equal.ensures)
-    (sym c.if-any.true ∙ any_from_yields_List _ c.any.new.self _ _ c.any.ensures.ran (YieldsList-from_first (λ x. x.now) slices_of _ refl) (λ x b q k. search (rules, tests))) refl
+    (sym c.if-any.true ∙ any_from_yields_List _ c.any.new.self _ _ c.any.ensures.ran (YieldsList-from_first (λ x. x.now) slices_of _ refl)
+    (λ x b q k. search (rules, tests))) refl
 
 pub returns : goal.returns
 returns c =
@@ -33,4 +34,5 @@ returns c =
     let y = c.split_at_mut-bytes.ensures in
     cut-more c.args.self.now _ _ _ _ _ _ _ x.value y.value x.front_len x.back_len y.front_len y.back_len c.requires.length c.requires.room (omega arith)
     c.meet_into.ensures refl refl (sym c.if-not-meets.false ∙ c.meets.ensures) (sym c.if-equal.false ∙ c.equal.ensures)
-    (sym c.if-any.false ∙ any_from_yields_List _ c.any.new.self _ _ c.any.ensures.ran (YieldsList-from_first (λ x. x.now) slices_of _ refl) (λ x b q k. search (rules, tests))) refl
+    (sym c.if-any.false ∙ any_from_yields_List _ c.any.new.self _ _ c.any.ensures.ran (YieldsList-from_first (λ x. x.now) slices_of _ refl)
+    (λ x b q k. search (rules, tests))) refl

@@ -7,4 +7,5 @@ use Rattle.algebra.proofs.run.Task.add_stops.Given as goal
 
 abbrev pub invariant-loop-stop : goal.invariant-loop-stop
 invariant-loop-stop l =
-    Pairs l.initial.piece.size (difference_of l.difference) l.self.t.now (stops_of l.initial.stop-iterator) l.initial.out l.initial.sum (stops_of l.stop-iterator) l.out l.sum l.piece
+    Pairs l.initial.piece.size (difference_of l.difference) l.self.t.now (stops_of l.initial.stop-iterator) l.initial.out l.initial.sum
+    (stops_of l.stop-iterator) l.out l.sum l.piece

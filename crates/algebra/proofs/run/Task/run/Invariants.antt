@@ -10,4 +10,5 @@ abbrev pub invariant-loop-front : goal.invariant-loop-front
 invariant-loop-front l =
     let x = l.self in
     let q = cube_len x.width in
-    Records x.operation q x.s.now x.t.now x.start (total x.operation q x.s.now x.first x.t.now x.start) l.initial.out (fronts_of l.front-iterator) l.out l.sum l.piece
+    Records x.operation q x.s.now x.t.now x.start (total x.operation q x.s.now x.first x.t.now x.start) l.initial.out (fronts_of l.front-iterator)
+    l.out l.sum l.piece

@@ -14,7 +14,8 @@ returns-then-piece-gt-MOST_CUTS c =
 pub returns-then-self-gt-MOST_DIFFERENCES : goal.returns-then-self-gt-MOST_DIFFERENCES
 returns-then-self-gt-MOST_DIFFERENCES c =
     let p = c.args.piece.now in
-    add-past p.size (difference_in p) c.args.out.now c.args.self (rw (row-length p.size p.cubes p.size p.kept) c.if-piece-gt-MOST_CUTS.false) c.if-self-gt-MOST_DIFFERENCES.true
+    add-past p.size (difference_in p) c.args.out.now c.args.self (rw (row-length p.size p.cubes p.size p.kept) c.if-piece-gt-MOST_CUTS.false)
+    c.if-self-gt-MOST_DIFFERENCES.true
 
 pub invariant_of-result : goal.invariant_of-result
 invariant_of-result c = record { few = omega arith; small = omega (arith, c.put_behind.ensures.low, c.args.self.small) }
@@ -22,5 +23,6 @@ invariant_of-result c = record { few = omega arith; small = omega (arith, c.put_
 pub returns : goal.returns
 returns c =
     let p = c.args.piece.now in
-    add-more p.size (difference_in p) c.args.out.now c.args.self (rw (row-length p.size p.cubes p.size p.kept) c.if-piece-gt-MOST_CUTS.false) c.if-self-gt-MOST_DIFFERENCES.false
+    add-more p.size (difference_in p) c.args.out.now c.args.self (rw (row-length p.size p.cubes p.size p.kept) c.if-piece-gt-MOST_CUTS.false)
+    c.if-self-gt-MOST_DIFFERENCES.false
     _ _ refl c.put_behind.ensures.ends c.put_behind.ensures.there

@@ -7,4 +7,5 @@ use Rattle.visits.proofs.memory.Slot.new.Given as goal
 
 abbrev pub invariant-loop-w : goal.invariant-loop-w
 invariant-loop-w l =
-    ((v : ℕ) → v < l.w → get_or l.x-items v 0 ≡ bit_or (get_or l.near v 0) (get_or l.common v 0)) × ((v : ℕ) → l.w ≤ v → get_or l.x-items v 0 ≡ get_or l.near v 0)
+    ((v : ℕ) → v < l.w → get_or l.x-items v 0 ≡ bit_or (get_or l.near v 0) (get_or l.common v 0))
+    × ((v : ℕ) → l.w ≤ v → get_or l.x-items v 0 ≡ get_or l.near v 0)

@@ -1,8 +1,10 @@
 -- `walk::inclusion::Pair::walk_first` meets its contract.
+use Rattle.visits.specs.Cuts.{cubes_of}
 use Rattle.walk.proofs.Recorded.{piece-cube}
 use Rattle.walk.proofs.inclusion.Pair.walk_first.Goals as goal
 
 pub returns : goal.returns
+unfolding cubes_of
 returns c =
     let s = c.args.self.first in
     rw (← s.alike)

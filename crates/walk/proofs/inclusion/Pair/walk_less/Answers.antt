@@ -15,7 +15,8 @@ returns-in_err-left c =
     let x = c.args in
     let v = c.walk_first in
     let later = map (walk_back (difference_of x.self.first)) (difference_of x.self.second).cuts in
-    ended-passed (length x.self.first.base.now) x.a 0 (walks_less (difference_of x.self.first) (difference_of x.self.second)) y c.from_residual.result c.from_residual.ensures.1
+    ended-passed (length x.self.first.base.now) x.a 0 (walks_less (difference_of x.self.first) (difference_of x.self.second)) y
+    c.from_residual.result c.from_residual.ensures.1
     (ended-here (length x.self.first.base.now) x.a 0 _ later v.result v.ensures y c.in_err-left.ensures)
 
 pub walk_restored-requires : goal.walk_restored-requires
@@ -28,4 +29,5 @@ returns c =
     let x = c.args in
     let v = c.walk_first in
     let later = map (walk_back (difference_of x.self.first)) (difference_of x.self.second).cuts in
-    ended-turn (length x.self.first.base.now) x.a 0 _ later v.result v.ensures c.in_ok-left.left c.in_ok-left.ensures c.walk_restored.result c.walk_restored.ensures
+    ended-turn (length x.self.first.base.now) x.a 0 _ later v.result v.ensures c.in_ok-left.left c.in_ok-left.ensures c.walk_restored.result
+    c.walk_restored.ensures

@@ -30,7 +30,8 @@ returns-in_err-left c =
     let steps = c.in-Some.ensures.steps in
     let v = c.walk_back in
     let a = c.args in
-    ended-passed (length a.self.first.base.now) a.a 1 (map (walk_back (difference_of a.self.first)) (difference_of a.self.second).cuts) x c.from_residual.result c.from_residual.ensures.1
+    ended-passed (length a.self.first.base.now) a.a 1 (map (walk_back (difference_of a.self.first)) (difference_of a.self.second).cuts) x
+    c.from_residual.result c.from_residual.ensures.1
     (cuts-stop c.loop-i.invariant _ _ steps.0 v.result v.ensures x (rw steps.1 at c.in_err-left.ensures))
 
 pub loop-i-preserved : goal.loop-i-preserved
