@@ -12,7 +12,7 @@ use mathlib.Core.Path.{◌≡◌, refl, ap, subst, ◌∙◌}
 use mathlib.Core.List.{List, [], ◌∷◌, ◌++◌, map}
 use mathlib.Core.Bool.{Bool, true, false, not, cond, ◌&&◌, ◌||◌}
 use lib.ListN.{length, get_or}
-use Rattle.model.specs.Cube.{Header, Cube, holds, meet, shares}
+use Rattle.model.specs.Cube.{Header, Cube, holds, shares}
 use Rattle.model.specs.Difference.{Difference, less, Region, any_holds, in_difference, in_region}
 use Rattle.model.specs.Algebra.{restored}
 use Rattle.model.specs.Walk.{nothing, piece, Found, in_turn, walk, walk_region, walk_inclusion, given_back, walk_back, pieces_less, walks_less, stop}
@@ -42,25 +42,18 @@ region-walks (d ∷ r) = one_more (walk-finds d) (region-walks r)
 back_none : (a : Difference) (c : Cube) → shares a.base c ≡ false → (h : Header) → in_difference (given_back a c) h ≡ false
 back_none a c e h = ap (λ (t : Bool). t && not (any_holds a.cuts h)) (in_meet a.base c h ∙ apart_none a.base c h e)
 
-back-finds : (a : Difference) (c : Cube) → Finds (less (meet a.base c) a.cuts) (walk_back a c)
+back-finds : (a : Difference) (c : Cube) → Finds (given_back a c) (walk_back a c)
 unfolding walk_back
 back-finds a c = go (shares a.base c) refl
   where
-    back : Difference
-    back = less (meet a.base c) a.cuts
-
-    go : (b : Bool) → shares a.base c ≡ b → Finds back (cond b (walk back) (record { pieces = 0; survivor = nothing }))
-    go true e = walk-finds back
-    go false e =
-        record {
-          none = λ n h. ap (λ (t : Bool). t && not (any_holds a.cuts h)) (in_meet a.base c h ∙ apart_none a.base c h e);
-          some = λ q n h k. cc;
-        }
+    go : (b : Bool) → shares a.base c ≡ b → Finds (given_back a c) (cond b (walk (given_back a c)) (record { pieces = 0; survivor = nothing }))
+    go true e = walk-finds (given_back a c)
+    go false e = record { none = λ n. back_none a c e; some = λ q n h k. cc }
 
 pub less-walks : (a b : Difference) → Walks (pieces_less a b) (walks_less a b)
 less-walks a b = one_more (walk-finds (less a.base (a.cuts ++ (b.base ∷ [])))) (go b.cuts)
   where
-    go : (cs : List Cube) → Walks (map (λ c. less (meet a.base c) a.cuts) cs) (map (walk_back a) cs)
+    go : (cs : List Cube) → Walks (map (given_back a) cs) (map (walk_back a) cs)
     go [] = none_left
     go (c ∷ cs) = one_more (back-finds a c) (go cs)
 

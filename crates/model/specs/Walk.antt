@@ -102,12 +102,12 @@ given_back a c = less (meet a.base c) a.cuts
 
 unfoldable pub walk_back : Difference → Cube → Found
 walk_back a c =
-    let back = walk (less (meet a.base c) a.cuts) in
+    let back = walk (given_back a c) in
     cond (shares a.base c) back (record { pieces = 0; survivor = nothing })
 
 -- FORMAT 113, 153
 abbrev pub pieces_less : Difference → Difference → Region
-pieces_less a b = less a.base (a.cuts ++ (b.base ∷ [])) ∷ map (λ c. less (meet a.base c) a.cuts) b.cuts
+pieces_less a b = less a.base (a.cuts ++ (b.base ∷ [])) ∷ map (given_back a) b.cuts
 
 abbrev pub walks_less : Difference → Difference → List Found
 walks_less a b = walk (less a.base (a.cuts ++ (b.base ∷ []))) ∷ map (walk_back a) b.cuts
