@@ -12,3 +12,4 @@ pub mod Deciding
 pub mod Belonging
 pub mod Viewing
 pub mod Figures
+pub mod IndexFigures

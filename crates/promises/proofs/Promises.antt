@@ -76,9 +76,11 @@ pub use Rattle.model.proofs.Ceilings.{ceiling-missed, ceiling-at-most}
 pub use Rattle.model.proofs.Allowed.{decided-when, undecided-when}
 --
 -- THE FIGURES. P1 to P10, in one list under one theorem (FORMAT 127); and the trainees' slips 1, 2 and 5, each as the
--- answer that it gets wrong (FORMAT 145, 146, 149).
+-- answer that it gets wrong (FORMAT 145, 146, 149). The index of each sort of answer (FORMAT 150 to 154), and the right
+-- one where one is taken for another.
 pub use Rattle.format.proofs.Figures.{figures}
-pub use Rattle.model.proofs.Slips.{slips}
+pub use Rattle.format.proofs.IndexFigures.{index-figures}
+pub use Rattle.model.proofs.Slips.{slips, index-slips}
 
 -- AGREEMENT. Any two permitted outcomes are the same (FORMAT 123), of anything that a call tells, and so of each call.
 pub two-outcomes-agree : (t : Told) (old : List ℕ) → OneOutcome t old
